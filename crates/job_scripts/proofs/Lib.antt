@@ -1,7 +1,6 @@
 pub mod Asked
 pub mod Blocks
-pub mod Cut
 pub mod OneMore
-pub mod Runs
+pub mod Placing
 pub mod Timeouts
 pub mod Written

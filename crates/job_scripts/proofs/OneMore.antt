@@ -1,14 +1,15 @@
 -- Lines more, and the groups of all lines.
 use Rattle.std.proofs.Common.{◌≡◌, ℕ, zero, suc, ◌+◌, ◌<◌, Bool, true, false, not, cond, ◌||◌, eqb, List, [], ◌∷◌, ◌++◌, map, filter, length, get_or, set, refl, sym, ap, subst, ◌∙◌, arith, append-nil, length-append, true≢false, Result, Ok, Err, OnOk}
-use Rattle.std.specs.Prelude.{⊤}
+use Rattle.std.specs.Prelude.{⊤, unwrap_or}
 use Rattle.std.proofs.Math.Numerals.{one-add}
 use Rattle.std.proofs.lemmas.List.{map-append, append_assoc}
 use Rattle.std.proofs.lemmas.List.Elements.{filter-append}
-use Rattle.std.proofs.lemmas.Grind.{common_steps, flat_map-append}
+use Rattle.std.proofs.lemmas.Grind.{common_steps}
 use Rattle.std.specs.List.{list_any, position_or_len}
 use Rattle.job_scripts.specs.declared.lines.Script.{Script}
-use Rattle.job_scripts.specs.Groups.{Group, group, group_of, groups_of, lines_under, with_ends, firsts, numbers_in, shown}
-use Rattle.job_scripts.specs.Runs.{more, extended, HaveGroup}
+use Rattle.job_scripts.specs.Groups.{Group, group, group_of, groups_of, job_at, lines_under, firsts, numbers_in, shown}
+use Rattle.job_scripts.specs.laws.Numbered.{numbers_group}
+use Rattle.job_scripts.specs.SoFar.{more, extended, HaveGroup}
 
 -- what follows from a fact that holds where it is Ok
 pub then_ok : {T E : Type 0} (r : Result T E) {P Q : Type 0} → OnOk r P → (P → Q) → OnOk r Q
@@ -103,18 +104,13 @@ AreUnder n [] = ⊤
 AreUnder n (l ∷ ls) = (group_of l ≡ n) × AreUnder n ls
 
 abbrev pub of_lines : ℕ → List (List ℕ) → Group
-of_lines n lines = record { number = n; text = with_ends lines; count = length lines }
-
-of_lines_more : (n : ℕ) (lines ls : List (List ℕ)) → of_lines n (lines ++ ls) ≡ more ls (of_lines n lines)
-of_lines_more n lines ls =
-    ap (λ (t : List ℕ). record { number = n; text = t; count = length (lines ++ ls) }) (flat_map-append (λ line. line ++ 10 ∷ []) lines ls)
-    ∙ ap (λ c. record { number = n; text = with_ends lines ++ with_ends ls; count = c }) (length-append lines ls)
+of_lines n lines = record { job = job_at n; lines = lines }
 
 none_of : (n m : ℕ) (ls : List (List ℕ)) → AreUnder m ls → eqb m n ≡ false → lines_under n ls ≡ []
 none_of n m [] u e = refl
 none_of n m (l ∷ ls) u e = ap (λ b. cond b (l ∷ lines_under n ls) (lines_under n ls)) (ap (λ x. eqb x n) u.0 ∙ e) ∙ none_of n m ls u.1 e
 
-self_equal : (n : ℕ) → eqb n n ≡ true
+pub self_equal : (n : ℕ) → eqb n n ≡ true
 self_equal n = grind (arith, common_steps)
 
 all_of : (n : ℕ) (ls : List (List ℕ)) → AreUnder n ls → lines_under n ls ≡ ls
@@ -136,14 +132,10 @@ none_under n (l ∷ ls) h = by (eqb n (group_of l)) refl (none_under n ls) h
     by true e ih h = absurd (true≢false h)
     by false e ih h = ap (λ b. cond b (l ∷ lines_under n ls) (lines_under n ls)) (other_way n (group_of l) e) ∙ ih h
 
-pub numbers_group : (lines : List (List ℕ)) (ns : List ℕ) → numbers_in (map (group lines) ns) ≡ ns
-numbers_group lines [] = refl
-numbers_group lines (n ∷ ns) = ap (λ (l : List ℕ). n ∷ l) (numbers_group lines ns)
-
 pub numbers_extended : (i : ℕ) (ls : List (List ℕ)) (gs : List Group) → numbers_in (extended i ls gs) ≡ numbers_in gs
 numbers_extended i ls [] = refl
 numbers_extended zero ls (g ∷ gs) = refl
-numbers_extended (suc i) ls (g ∷ gs) = ap (λ (l : List ℕ). g.number ∷ l) (numbers_extended i ls gs)
+numbers_extended (suc i) ls (g ∷ gs) = ap (λ (l : List ℕ). unwrap_or g.job 0 ∷ l) (numbers_extended i ls gs)
 
 map_same : (lines ls : List (List ℕ)) (m : ℕ) (ns : List ℕ) → AreUnder m ls → has m ns ≡ false → map (group (lines ++ ls)) ns ≡ map (group lines) ns
 map_same lines ls m [] u h = refl
@@ -161,12 +153,12 @@ map_extended lines ls m (n ∷ ns) u d = by (eqb m n) refl (map_extended lines l
         → group (lines ++ ls) n ∷ map (group (lines ++ ls)) ns ≡ extended (cond (not b) (1 + position_or_len (eqb m) ns) 0) ls (group lines n ∷ map (group lines) ns)
     by true e ih =
         ap (λ (gs : List Group). group (lines ++ ls) n ∷ gs) (map_same lines ls m ns u (subst (λ x. has x ns ≡ false) (sym (same_number m n e)) d.0))
-        ∙ ap (λ (g : Group). g ∷ map (group lines) ns) (ap (of_lines n) (under_more n lines ls (subst (λ x. AreUnder x ls) (same_number m n e) u)) ∙ of_lines_more n (lines_under n lines) ls)
+        ∙ ap (λ (g : Group). g ∷ map (group lines) ns) (ap (of_lines n) (under_more n lines ls (subst (λ x. AreUnder x ls) (same_number m n e) u)))
     by false e ih =
         ap (λ (gs : List Group). group (lines ++ ls) n ∷ gs) ih ∙ ap (λ (t : List (List ℕ)). of_lines n t ∷ extended (position_or_len (eqb m) ns) ls (map (group lines) ns)) (under_same n m lines ls u e)
         ∙ sym (ap (λ i. extended i ls (group lines n ∷ map (group lines) ns)) (one-add (position_or_len (eqb m) ns)))
 
-has_last : (n : ℕ) (ns : List ℕ) → has n (ns ++ n ∷ []) ≡ true
+pub has_last : (n : ℕ) (ns : List ℕ) → has n (ns ++ n ∷ []) ≡ true
 has_last n [] = ap (λ b. b || false) (self_equal n)
 has_last n (k ∷ ks) = ap (λ b. eqb n k || b) (has_last n ks) ∙ either (eqb n k)
   where
@@ -215,12 +207,3 @@ have_new n gs new g keys k h e is = λ lines same.
 
 pub new_script : (n : ℕ) (scripts new : List Script) (s : Script) (keys : List ℕ) → keys ≡ numbers_in (map shown scripts) → has n keys ≡ false → new ≡ scripts ++ s ∷ [] → shown s ≡ of_lines n [] → HaveGroup n (map shown scripts) (map shown new)
 new_script n scripts new s keys k h e is = have_new n (map shown scripts) (map shown new) (shown s) keys k h (ap (map shown) e ∙ map-append shown scripts (s ∷ [])) is
-
--- what a set tells of a key that was put in
-pub was_new : (added seen : Bool) → added ≡ not seen → added ≡ true → seen ≡ false
-was_new added true e t = absurd (true≢false (sym t ∙ e))
-was_new added false e t = refl
-
-pub was_known : (added seen : Bool) → added ≡ not seen → added ≡ false → seen ≡ true
-was_known added true e t = refl
-was_known added false e t = absurd (true≢false (sym e ∙ t))

@@ -1,11 +1,10 @@
 -- Lines by job. Source: docs/CONCURRENCY.md, "Many jobs at the same time".
 -- Read groups_in, then groups_of, lines_under and firsts; the contract of scripts_of cites groups_in.
-use Rattle.std.specs.Prelude.{ℕ, not, List, [], ◌∷◌, ◌++◌, ◌==◌, map, filter, length, unwrap_or}
-use Rattle.std.specs.List.{flat_map}
+use Rattle.std.specs.Prelude.{ℕ, not, List, [], ◌∷◌, ◌==◌, if◌then◌else◌, map, filter, length, unwrap_or, Option, None, Some}
 use Rattle.bstr.specs.Text.{lines_of, without_terminator}
-use Rattle.collation.specs.Bytes as byte
 use Rattle.script.specs.Line.{job_of_line}
 use Rattle.job_scripts.specs.declared.lines.Script.{Script}
+use Rattle.job_scripts.specs.Lines.{lent_lines}
 
 -- the number under which a line stands: its job's, or 0
 abbrev pub group_of : List ℕ → ℕ
@@ -15,24 +14,23 @@ group_of line = unwrap_or (job_of_line line) 0
 abbrev pub lines_under : ℕ → List (List ℕ) → List (List ℕ)
 lines_under n lines = filter (λ line. group_of line == n) lines
 
--- lines as text, each with a byte 10 behind it
-abbrev pub with_ends : List (List ℕ) → List ℕ
-with_ends lines = flat_map (λ line. line ++ byte.line_feed ∷ []) lines
-
 -- each number once, in order of first appearance
 abbrev pub firsts : List ℕ → List ℕ
 firsts [] = []
 firsts (n ∷ ns) = n ∷ filter (λ m. not (m == n)) (firsts ns)
 
--- a script's number, its lines as text, and how many they are
+-- a script's job, or none, and its lines
 pub record Group : Type 0 where
-  pub number : ℕ
-  pub text : List ℕ
-  pub count : ℕ
+  pub job : Option ℕ
+  pub lines : List (List ℕ)
+
+-- the job of a number, none of 0
+abbrev pub job_at : ℕ → Option ℕ
+job_at n = if n == 0 then None else Some n
 
 -- the group of a number
 abbrev pub group : List (List ℕ) → ℕ → Group
-group lines n = record { number = n; text = with_ends (lines_under n lines); count = length (lines_under n lines) }
+group lines n = record { job = job_at n; lines = lines_under n lines }
 
 -- the groups of lines, in order of first appearance
 abbrev pub groups_of : List (List ℕ) → List Group
@@ -56,8 +54,8 @@ groups_in text = groups_of (lines_in text)
 
 -- what a script shows
 abbrev pub shown : Script → Group
-shown s = record { number = unwrap_or s.job 0; text = s.text.items; count = s.lines }
+shown s = record { job = s.job; lines = lent_lines s.lines.items }
 
 -- the groups' numbers
 abbrev pub numbers_in : List Group → List ℕ
-numbers_in groups = map (λ g. g.number) groups
+numbers_in groups = map (λ g. unwrap_or g.job 0) groups

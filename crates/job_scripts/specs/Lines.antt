@@ -1,21 +1,18 @@
--- The lines of a script's text, and what a line asks of a job. Source: docs/FORMATS.md, "Which refusal a line gets".
--- Read lines_of_script, then Asks and IsReadFor.
-use Rattle.std.specs.Prelude.{◌≡◌, ◌≢◌, ◌⊎◌, ℕ, List, [], ◌∷◌, ◌==◌, if◌then◌else◌, Result, Ok, Err}
+-- The lines of a script, and what a line asks of a job. Source: docs/FORMATS.md, "Which refusal a line gets".
+-- Read Asks, IsReadFor and IsRequestFor.
+use Rattle.std.specs.Prelude.{◌≡◌, ◌≢◌, ◌⊎◌, ℕ, List, map, Result, Ok, Err}
+use Rattle.std.specs.Borrow.{Bor}
 use Rattle.refusal.specs.declared.Refusal.{Refusal}
 use Rattle.refusal.specs.declared.Refusal.TheVariants.{BadJob}
-use Rattle.collation.specs.Bytes as byte
 use Rattle.command.specs.declared.request.Command.{Command}
 use Rattle.script.specs.Line.{reading_of, IsRefusalOf}
+use Rattle.script.specs.Asked.{IsAsked}
+use Rattle.script.specs.declared.sentence.Drafts.{Drafts}
+use Rattle.script.specs.declared.sentence.Sentence.{Sentence}
 
--- a byte more in front of the first line
-abbrev pub in_front : ℕ → List (List ℕ) → List (List ℕ)
-in_front b [] = (b ∷ []) ∷ []
-in_front b (line ∷ lines) = (b ∷ line) ∷ lines
-
--- the lines: each up to a byte 10, and what stands behind the last of these, where that isn't empty
-abbrev pub lines_of_script : List ℕ → List (List ℕ)
-lines_of_script [] = []
-lines_of_script (b ∷ bs) = if b == byte.line_feed then [] ∷ lines_of_script bs else in_front b (lines_of_script bs)
+-- the bytes of lines that are lent
+abbrev pub lent_lines : List (Bor (List ℕ)) → List (List ℕ)
+lent_lines lines = map (λ line. line.now) lines
 
 -- the line asks for this command, of this job
 abbrev pub Asks : ℕ → List ℕ → Command → Type 0
@@ -33,3 +30,8 @@ IsRefusedAs job line refusal = IsRefusalOf line refusal ⊎ ((refusal ≡ BadJob
 abbrev pub IsReadFor : ℕ → List ℕ → Result Command Refusal → Type 0
 IsReadFor job line (Ok command) = Asks job line command
 IsReadFor job line (Err refusal) = IsRefusedAs job line refusal
+
+-- the same as far as its sentence, of which the references, lock names and value stand in drafts
+abbrev pub IsRequestFor : ℕ → List ℕ → Drafts → Result Sentence Refusal → Type 0
+IsRequestFor job line drafts (Ok sentence) = IsAsked line drafts job sentence
+IsRequestFor job line drafts (Err refusal) = IsRefusedAs job line refusal

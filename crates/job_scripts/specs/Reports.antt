@@ -1,5 +1,5 @@
 -- Replies by job as text. Source: docs/FORMATS.md, "Replies".
-use Rattle.std.specs.Prelude.{ℕ, Bool, List, Option}
+use Rattle.std.specs.Prelude.{◌≡◌, ℕ, Bool, List, ◌++◌, Option}
 use Rattle.std.specs.List.{flat_map, list_any}
 use Rattle.command.specs.declared.request.Reply.{Reply}
 use Rattle.command.specs.Replies.{is_refused}
@@ -12,6 +12,14 @@ pub record Answers : Type 0 where
 
 abbrev pub answers : Option ℕ → List Reply → Answers
 answers job replies = record { job = job; replies = replies }
+
+-- with more replies behind them
+abbrev pub and_replies : Answers → List Reply → Answers
+and_replies a more = answers a.job (a.replies ++ more)
+
+-- the replies are those before and more
+abbrev pub GoesOnFrom : List Reply → List Reply → Type 0
+GoesOnFrom old new = (more : List Reply) × (new ≡ old ++ more)
 
 -- the lines of its replies
 abbrev pub report_text : Answers → List ℕ

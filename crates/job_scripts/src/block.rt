@@ -1,20 +1,21 @@
 //! Blocks: lines that are done under one hold of an engine's lock.
-ghost use Rattle.std.specs.Prelude.{◌≡◌, ◌≢◌, ◌≤◌, ◌++◌, ◌∷◌, [], true, ℕ, List, Option, None, Some, length, max, IfOk, OnOk};
+ghost use Rattle.std.specs.Prelude.{◌≡◌, ◌≢◌, ◌≤◌, ◌++◌, ◌∷◌, [], true, ℕ, List, Option, None, Some, length, IfOk, OnOk};
 ghost use Rattle.std.specs.Vec.Iter.{into_iter_items};
 ghost use Rattle.refusal.specs.declared.Refusal.{Refusal};
 ghost use Rattle.std.specs.List.{All};
 ghost use Rattle.collation.specs.Limits.{most_levels};
-ghost use Rattle.command.specs.declared.access.DataCommand.{DataCommand};
 ghost use Rattle.command.specs.declared.request.Command.{Command};
-ghost use Rattle.command.specs.declared.request.Command.TheVariants.{Access};
-ghost use Rattle.job_scripts.specs.Lines.{lines_of_script, Asks, IsRefusedAs};
+ghost use Rattle.command.specs.declared.request.Reply.{Reply};
+ghost use Rattle.job_scripts.specs.Reports.{and_replies};
+ghost use Rattle.job_scripts.specs.Lines.{lent_lines, Asks, IsRefusedAs};
 ghost use Rattle.job_scripts.specs.Blocks.{level_after as level_left, IsOneBlock, EndsBlock, in_place, AreInFront};
 ghost use Rattle.job_scripts.specs.Timeouts.{timeout_in};
 
 use crate::lines::{next_line, read_for};
+use crate::replies::Replies;
 use crate::timeout::timeout_of;
 use collation::{Job, MOST_LEVELS};
-use command::{Command, DataCommand, Reply};
+use command::{Command, Reply};
 use refusal::Refusal;
 use script::Drafts;
 use std::alloc::{AllocError, Global};
@@ -40,12 +41,12 @@ pub struct Block<'a> {
     /// For each command whether, if it is a LOCK, it has to have its names, since its line has no timeout.
     pub musts: Vec<bool>,
     /// The lines that follow.
-    pub rest: &'a [u8],
+    pub rest: &'a [&'a [u8]],
 }
 
 impl<'a> Block<'a> {
     // No line, in front of these.
-    fn new(alloc: Global, lines: &'a [u8]) -> Block<'a>
+    fn new(alloc: Global, lines: &'a [&'a [u8]]) -> Block<'a>
         ensures { (result.commands.items ≡ []) × ((result.places.items ≡ []) × ((result.musts.items ≡ []) × (result.rest.now ≡ lines.now))) }
     {
         Block {
@@ -56,29 +57,14 @@ impl<'a> Block<'a> {
         }
     }
 
-    // The command of a line before these.
-    #[tactic(auto, using(crate::proofs::Blocks::first_in_front))]
-    fn begin(&mut self, command: Command) -> Result<(), AllocError>
-        requires { (self.old.commands.items ≡ []) × ((self.old.places.items ≡ []) × (self.old.musts.items ≡ [])) }
-        ensures commands { OnOk result (self.new.commands.items ≡ command ∷ []) }
-        ensures places { OnOk result (self.new.places.items ≡ None ∷ []) }
-        ensures rest { self.new.rest.now ≡ self.old.rest.now }
-        ensures asked { OnOk result ((job : ℕ) (line : List ℕ) → Asks job line command → AreInFront job (line ∷ lines_of_script self.old.rest.now) (lines_of_script self.new.rest.now) self.new.places.items self.new.commands.items self.new.musts.items) }
-    {
-        self.commands.push(command)?;
-        self.places.push(None)?;
-        self.musts.push(true)?;
-        Ok(())
-    }
-
     // One line more, with its command.
-    #[tactic(auto, using(crate::proofs::Blocks::command_in_front))]
-    fn add(&mut self, command: Command, line: &[u8], rest: &'a [u8]) -> Result<(), AllocError>
+    #[tactic(auto, using(crate::specs::laws::InFront::command_in_front))]
+    fn add(&mut self, command: Command, line: &[u8], rest: &'a [&'a [u8]]) -> Result<(), AllocError>
         ensures commands { OnOk result (self.new.commands.items ≡ self.old.commands.items ++ command ∷ []) }
         ensures places { OnOk result (self.new.places.items ≡ self.old.places.items ++ None ∷ []) }
         ensures rest { OnOk result (self.new.rest.now ≡ rest.entry.now) }
-        ensures asked { OnOk result ((job : ℕ) (all : List (List ℕ)) → AreInFront job all (lines_of_script self.old.rest.now) self.old.places.items self.old.commands.items self.old.musts.items → lines_of_script self.old.rest.now ≡ line.now ∷ lines_of_script rest.entry.now
-            → Asks job line.now command → AreInFront job all (lines_of_script self.new.rest.now) self.new.places.items self.new.commands.items self.new.musts.items) }
+        ensures asked { OnOk result ((job : ℕ) (all : List (List ℕ)) → AreInFront job all (lent_lines self.old.rest.now) self.old.places.items self.old.commands.items self.old.musts.items → lent_lines self.old.rest.now ≡ line.now ∷ lent_lines rest.entry.now
+            → Asks job line.now command → AreInFront job all (lent_lines self.new.rest.now) self.new.places.items self.new.commands.items self.new.musts.items) }
     {
         self.commands.push(command)?;
         self.places.push(None)?;
@@ -88,12 +74,17 @@ impl<'a> Block<'a> {
     }
 
     // One line more, which is refused.
-    fn refuse(&mut self, refusal: Refusal, line: &[u8], rest: &'a [u8]) -> Result<(), AllocError>
+    fn refuse(
+        &mut self,
+        refusal: Refusal,
+        line: &[u8],
+        rest: &'a [&'a [u8]],
+    ) -> Result<(), AllocError>
         ensures commands { self.new.commands.items ≡ self.old.commands.items }
         ensures places { OnOk result (self.new.places.items ≡ self.old.places.items ++ Some refusal ∷ []) }
         ensures rest { OnOk result (self.new.rest.now ≡ rest.entry.now) }
-        ensures asked { OnOk result ((job : ℕ) (all : List (List ℕ)) → AreInFront job all (lines_of_script self.old.rest.now) self.old.places.items self.old.commands.items self.old.musts.items → lines_of_script self.old.rest.now ≡ line.now ∷ lines_of_script rest.entry.now
-            → IsRefusedAs job line.now refusal → AreInFront job all (lines_of_script self.new.rest.now) self.new.places.items self.new.commands.items self.new.musts.items) }
+        ensures asked { OnOk result ((job : ℕ) (all : List (List ℕ)) → AreInFront job all (lent_lines self.old.rest.now) self.old.places.items self.old.commands.items self.old.musts.items → lent_lines self.old.rest.now ≡ line.now ∷ lent_lines rest.entry.now
+            → IsRefusedAs job line.now refusal → AreInFront job all (lent_lines self.new.rest.now) self.new.places.items self.new.commands.items self.new.musts.items) }
     {
         self.places.push(Some(refusal))?;
         self.rest = rest;
@@ -122,18 +113,18 @@ fn level_after(level: u64, command: &Command) -> u64
 ///
 /// `AllocError` where memory for the block is refused. A line that can't be read, also for want of memory, or that is
 /// another job's, has its refusal in its place.
-#[tactic(auto, using(crate::proofs::Blocks::none_in_front, crate::proofs::Blocks::ends_at_the_end, crate::proofs::Blocks::ends_at_halt, crate::proofs::Blocks::ends_closed))]
+#[tactic(auto, using(crate::specs::laws::InFront::none_in_front, crate::proofs::Blocks::ends_at_the_end, crate::proofs::Blocks::ends_at_halt, crate::proofs::Blocks::ends_closed))]
 pub fn block_of<'a>(
     alloc: Global,
     job: Job,
-    lines: &'a [u8],
+    lines: &'a [&'a [u8]],
     drafts: &mut Drafts,
 ) -> Result<Block<'a>, AllocError>
     ensures goes_on { IfOk result (λ block. All (λ (c : Command). c ≢ Command.Halt) block.commands.items) }
     ensures one { IfOk result (λ block. IsOneBlock 1 block.commands.items) }
-    ensures ended { IfOk result (λ block. EndsBlock job block.commands.items (lines_of_script block.rest.now)) }
+    ensures ended { IfOk result (λ block. EndsBlock job block.commands.items (lent_lines block.rest.now)) }
     ensures rest { IfOk result (λ block. length block.rest.now ≤ length lines.now) }
-    ensures asked { IfOk result (λ block. AreInFront job (lines_of_script lines.now) (lines_of_script block.rest.now) block.places.items block.commands.items block.musts.items) }
+    ensures asked { IfOk result (λ block. AreInFront job (lent_lines lines.now) (lent_lines block.rest.now) block.places.items block.commands.items block.musts.items) }
 {
     let mut block = Block::new(alloc, lines);
     let mut level = 1;
@@ -153,50 +144,22 @@ pub fn block_of<'a>(
     Ok(block)
 }
 
-/// A data command, and those of a job's lines at the front of a text: up to the line that asks for something else, or to so
-/// many lines in all.
-///
-/// `AllocError` as `block_of`; a line that can't be read, or is another job's, has its refusal in its place.
-#[tactic(auto, using(crate::proofs::Blocks::none_in_front))]
-pub fn data_block<'a>(
-    alloc: Global,
-    job: Job,
-    first: DataCommand,
-    lines: &'a [u8],
-    most: usize,
-    drafts: &mut Drafts,
-) -> Result<Block<'a>, AllocError>
-    ensures goes_on { IfOk result (λ block. All (λ (c : Command). c ≢ Command.Halt) block.commands.items) }
-    ensures accesses { IfOk result (λ block. All (λ (c : Command). (d : DataCommand) × (c ≡ Command.Access d)) block.commands.items) }
-    ensures few { IfOk result (λ block. length block.places.items ≤ max 1 most) }
-    ensures rest { IfOk result (λ block. length block.rest.now ≤ length lines.now) }
-    ensures asked { IfOk result (λ block. (line : List ℕ) → Asks job line (Access first) → AreInFront job (line ∷ lines_of_script lines.now) (lines_of_script block.rest.now) block.places.items block.commands.items block.musts.items) }
-{
-    let mut block = Block::new(alloc, lines);
-    block.begin(Command::Access(first))?;
-    'lines: while block.places.len() < most {
-        let Some((line, rest)) = next_line(block.rest) else {
-            break;
-        };
-        match read_for(alloc, job, line, drafts) {
-            Ok(Command::Access(command)) => block.add(Command::Access(command), line, rest)?,
-            Ok(_) => break,
-            Err(refusal) => block.refuse(refusal, line, rest)?,
-        }
-    }
-    Ok(block)
-}
-
 // The reply in a line's place: its refusal, or the next reply.
-fn reply_for(
+fn push_for(
     place: &Option<Refusal>,
     served: &mut IntoIter<Reply, Global>,
-) -> Result<Reply, AllocError>
-    ensures { IfOk result (λ reply. (places : List (Option Refusal)) → in_place (place.now ∷ places) (into_iter_items served.old) ≡ reply ∷ in_place places (into_iter_items served.new)) }
+    replies: &mut Replies,
+) -> Result<(), AllocError>
+    ensures { OnOk result ((reply : Reply) × ((replies.new ≡ and_replies replies.old (reply ∷ [])) × ((places : List (Option Refusal)) → in_place (place.now ∷ places) (into_iter_items served.old) ≡ reply ∷ in_place places (into_iter_items served.new)))) }
 {
     match place {
-        Some(refusal) => Ok(Reply::Refused(*refusal)),
-        None => served.next().ok_or(AllocError),
+        Some(refusal) => replies.push_refused(*refusal),
+        None => {
+            let reply = served.next().ok_or(AllocError)?;
+            let pushed = replies.push(&reply);
+            drop(reply);
+            pushed
+        }
     }
 }
 
@@ -206,13 +169,13 @@ fn reply_for(
 pub fn push_in_place(
     places: &[Option<Refusal>],
     served: Vec<Reply>,
-    replies: &mut Vec<Reply>,
+    replies: &mut Replies,
 ) -> Result<(), AllocError>
-    ensures { OnOk result (replies.new.items ≡ replies.old.items ++ in_place places.now served.items) }
+    ensures { OnOk result (replies.new ≡ and_replies replies.old (in_place places.now served.items)) }
 {
     let mut served = served.into_iter();
     for place in places {
-        replies.push(reply_for(place, &mut served)?)?;
+        push_for(place, &mut served, replies)?;
     }
     Ok(())
 }

@@ -2,9 +2,9 @@
 use Rattle.std.proofs.Common.{◌≡◌, ℕ, ◌==◌, Bool, true, false, not, List, [], ◌∷◌, map, refl, sym, ap, ◌∙◌, subst, eq-eqb, true≢false}
 use Rattle.std.specs.Prelude.{⊤, Option, Some, None, IfSome, unwrap_or, cond}
 use Rattle.std.specs.List.{filter}
-use Rattle.job_scripts.specs.Groups.{group, group_of, groups_in, lines_in, firsts, numbers_in}
-use Rattle.job_server.specs.Served.{Wanted, IsNoJobOf, AreApart}
-use Rattle.job_server.specs.Texts.{group_of_script}
+use Rattle.job_scripts.specs.Groups.{Group, group_of, groups_in, lines_in, firsts, numbers_in}
+use Rattle.job_scripts.specs.laws.Numbered.{numbers_group}
+use Rattle.job_server.specs.Served.{IsNoJobOf, AreApart}
 
 -- ---- numbers that are all different
 
@@ -46,23 +46,19 @@ firsts_different (n ∷ ns) = (left_out n (firsts ns), filter_different (λ m. n
 
 -- ---- scripts
 
-numbers_are : (lines : List (List ℕ)) (ns : List ℕ) → numbers_in (map (group lines) ns) ≡ ns
-numbers_are lines [] = refl
-numbers_are lines (n ∷ ns) = ap (λ (ms : List ℕ). n ∷ ms) (numbers_are lines ns)
-
-no_job : (job : ℕ) (ws : List Wanted) → IsNotIn job (numbers_in (map group_of_script ws)) → IsNoJobOf job ws
+no_job : (job : ℕ) (ws : List Group) → IsNotIn job (numbers_in ws) → IsNoJobOf job ws
 no_job job [] none = tt
 no_job job (w ∷ ws) none = ((λ is. none.0 (ap (λ (o : Option ℕ). unwrap_or o 0) is)), no_job job ws none.1)
 
-apart_by : (ws : List Wanted) → AreDifferent (numbers_in (map group_of_script ws)) → AreApart ws
+apart_by : (ws : List Group) → AreDifferent (numbers_in ws) → AreApart ws
 apart_by [] all = tt
 apart_by (w ∷ ws) all = (by_job w.job refl, apart_by ws all.1)
   where
     by_job : (o : Option ℕ) → w.job ≡ o → IfSome o (λ job. IsNoJobOf job ws)
     by_job None is = tt
-    by_job (Some job) is = no_job job ws (subst (λ (n : ℕ). IsNotIn n (numbers_in (map group_of_script ws))) (ap (λ (o : Option ℕ). unwrap_or o 0) is) all.0)
+    by_job (Some job) is = no_job job ws (subst (λ (n : ℕ). IsNotIn n (numbers_in ws)) (ap (λ (o : Option ℕ). unwrap_or o 0) is) all.0)
 
-pub apart_of : (text : List ℕ) (ws : List Wanted) → map group_of_script ws ≡ groups_in text → AreApart ws
-apart_of text ws are =
+pub apart_of : (text : List ℕ) → AreApart (groups_in text)
+apart_of text =
     let lines = lines_in text in
-    apart_by ws (subst AreDifferent (sym (ap numbers_in are ∙ numbers_are lines (firsts (map group_of lines)))) (firsts_different (map group_of lines)))
+    apart_by (groups_in text) (subst AreDifferent (sym (numbers_group lines (firsts (map group_of lines)))) (firsts_different (map group_of lines)))

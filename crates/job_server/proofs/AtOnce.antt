@@ -1,12 +1,14 @@
 -- Lines that are done under one hold of the lock.
-use Rattle.std.proofs.Common.{◌≡◌, ◌≢◌, ℕ, ◌≤◌, Bool, true, false, List, [], ◌∷◌, ◌++◌, length, refl, sym, ap, ◌∙◌, subst, arith}
+use Rattle.std.proofs.Common.{◌≡◌, ℕ, Bool, true, false, List, [], ◌∷◌, ◌++◌, length, refl, sym, ap, ◌∙◌, subst, arith}
 use Rattle.std.specs.Prelude.{Option, Some, None, Result, Ok, Err}
-use Rattle.std.proofs.lemmas.List.Elements.{All-rest}
+use Rattle.std.specs.List.{All}
+use Rattle.std.proofs.lemmas.List.Elements.{All-nil, All-cons, All-rest}
+use Rattle.std.specs.Borrow.{Bor}
 use Rattle.refusal.specs.declared.Refusal.{Refusal}
 use Rattle.command.specs.declared.access.DataCommand.{DataCommand}
 use Rattle.command.specs.declared.access.Answer.{Answer}
 use Rattle.command.specs.declared.request.Command.{Command}
-use Rattle.command.specs.declared.request.Command.TheVariants.{Access, Halt}
+use Rattle.command.specs.declared.request.Command.TheVariants.{Access}
 use Rattle.command.specs.declared.request.Reply.{Reply}
 use Rattle.command.specs.declared.request.Reply.TheVariants.{Answered}
 use Rattle.journal.specs.declared.unit.Unit.{Unit as JournalUnit}
@@ -14,14 +16,23 @@ use Rattle.shared_engine.specs.Sessions.{Held, knowing}
 use Rattle.shared_engine.specs.declared.serial_run.SerialRun.{SerialRun}
 use Rattle.shared_engine.specs.declared.serial_run.SerialRun.TheVariants.{Done, Blocked}
 use Rattle.shared_engine.specs.Blocks.{said, HasDone, AreDone, is_blocked, AreHad, HasCome}
-use Rattle.job_scripts.specs.declared.block.Block.{Block}
+use Rattle.shared_engine.specs.Holds.{Lines, accesses}
 use Rattle.job_scripts.specs.Blocks.{in_place, AreAsked, AreInFront}
-use Rattle.job_scripts.specs.Lines.{lines_of_script}
+use Rattle.job_scripts.specs.Lines.{lent_lines}
 use Rattle.job_server.specs.declared.cursor.Cursor.{Cursor}
 use Rattle.job_server.specs.declared.cursor.Line.{Line}
+use Rattle.job_server.specs.declared.gathering.Front.{Front}
+use Rattle.job_server.specs.Holding.{AreGathered, IsGathered, HasHeld}
 use Rattle.job_server.specs.Steps.{Past, sessions_so_far, HasDoneSteps, IsNoStep, IsBetween, IsNoEnd, AreShown}
-use Rattle.job_server.specs.Telling.{HaveNoHalt, Running, running, Serves, AreWithin, ServesWithin, AdvancesWithin, ServesBlock, HasRunOutside, HasReadAll, AreDataCommands}
+use Rattle.job_server.specs.Telling.{Running, running, Serves, AreWithin, ServesWithin, AdvancesWithin}
 use Rattle.job_server.proofs.Stepping.{between_knowing, no_steps, steps_behind, done_then, block_steps, block_shown, asks_once, command_no_end, refused_no_end}
+
+abbrev IsData : Command → Type 0
+IsData c = (d : DataCommand) × (c ≡ Access d)
+
+-- all are data commands
+abbrev AreDataCommands : List Command → Type 0
+AreDataCommands commands = All IsData commands
 
 -- done from a session that stands so
 block_from : (job : ℕ) (before rest : List (List ℕ)) (places : List (Option Refusal)) (commands : List Command) (musts : List Bool) (served replies more_replies : List Reply) (p : Past) (units more : List JournalUnit) (old start new : Held)
@@ -58,7 +69,7 @@ data_within job (line ∷ lines) (None ∷ places) [] replies units more old new
 data_within job (line ∷ lines) (None ∷ places) (command ∷ commands) [] units more old new all asked done = absurd done
 data_within job (line ∷ lines) (None ∷ places) (command ∷ commands) (reply ∷ replies) units more old new all asked done = (
   (λ other asks. subst (λ (c : Command). IsNoEnd c reply) (asks_once job line command other asked.0 asks) (access_no_end command reply (all 0 command (omega arith)))),
-  data_within job lines places commands replies done.0 more done.1 new (All-rest (λ (c : Command). (d : DataCommand) × (c ≡ Access d)) command commands (command ∷ commands) refl all) asked.1 done.3,
+  data_within job lines places commands replies done.0 more done.1 new (All-rest IsData command commands (command ∷ commands) refl all) asked.1 done.3,
 )
   where
     access_no_end : (c : Command) (r : Reply) → ((d : DataCommand) × (c ≡ Access d)) → IsNoEnd c r
@@ -73,14 +84,6 @@ data_from job before rest places commands musts served replies more_replies p un
   block_from job before rest places commands musts served replies more_replies p units more old start new in_front seen between done had is,
   data_within job in_front.front places commands served units more start new all in_front.asked done,
 )
-
-pub run_serves : (job : ℕ) (before rest : List (List ℕ)) (places : List (Option Refusal)) (commands : List Command) (musts : List Bool) (run : SerialRun) (served replies more_replies : List Reply) (p : Past) (session later : Option Held) → AreDataCommands commands → AreInFront job before rest places commands musts
-    → HasRunOutside musts commands run session later → IsAll run served → more_replies ≡ replies ++ in_place places served → ServesWithin job before rest (running replies (sessions_so_far p session)) (running more_replies (sessions_so_far p later))
-run_serves job before rest places commands musts run served replies more_replies p None later accesses in_front ran all is = absurd ran
-run_serves job before rest places commands musts run served replies more_replies p (Some old) None accesses in_front ran all is = absurd ran
-run_serves job before rest places commands musts run served replies more_replies p (Some old) (Some new) accesses in_front ran all is =
-    let come = all_done musts commands run served ran.0 new.seen (knowing ran.0 old) new all ran.2 in
-    data_from job before rest places commands musts served replies more_replies p ran.0 new.seen old (knowing ran.0 old) new accesses in_front refl (between_knowing job p ran.0 old ran.1.goes_on) come.0 come.1 is
 
 -- where the transaction began anew, from there
 pub anew_serves : (job : ℕ) (before rest : List (List ℕ)) (places : List (Option Refusal)) (commands : List Command) (musts : List Bool) (run : SerialRun) (served replies more_replies : List Reply) (p : Past) (units more : List JournalUnit) (middle new : Held) → middle.seen ≡ units
@@ -108,29 +111,33 @@ data_had (must ∷ musts) commands [] units more old new all done = tt
 data_had (must ∷ musts) [] (reply ∷ replies) units more old new all done = absurd done
 data_had (must ∷ musts) (command ∷ commands) (reply ∷ replies) units more old new all done = (
   access_had must command reply units done.0 old done.1 (all 0 command (omega arith)) done.2,
-  data_had musts commands replies done.0 more done.1 new (All-rest (λ (c : Command). (d : DataCommand) × (c ≡ Access d)) command commands (command ∷ commands) refl all) done.3,
+  data_had musts commands replies done.0 more done.1 new (All-rest IsData command commands (command ∷ commands) refl all) done.3,
 )
 
--- nor is one HALT
-pub no_halts : (commands : List Command) → AreDataCommands commands → HaveNoHalt commands
-no_halts commands all k command lt is = absurd (not_halt (all k command lt).0 (sym (all k command lt).1 ∙ is))
-  where
-    not_halt : (d : DataCommand) → Access d ≢ Halt
-    not_halt d same = absurd (cc)
+-- ---- lines of a hold
 
-pub reads_serve : (job : ℕ) (before rest : List (List ℕ)) (places : List (Option Refusal)) (commands : List Command) (musts : List Bool) (served replies more_replies : List Reply) (p : Past) (session later : Option Held) → AreDataCommands commands → AreInFront job before rest places commands musts
-    → HasReadAll commands served session later → more_replies ≡ replies ++ in_place places served → ServesWithin job before rest (running replies (sessions_so_far p session)) (running more_replies (sessions_so_far p later))
-reads_serve job before rest places commands musts served replies more_replies p None later all in_front reads is = absurd reads
-reads_serve job before rest places commands musts served replies more_replies p (Some old) None all in_front reads is = absurd reads
-reads_serve job before rest places commands musts served replies more_replies p (Some old) (Some new) all in_front reads is =
-    data_from job before rest places commands musts served replies more_replies p reads.0 reads.0 old (knowing reads.0 old) new all in_front refl (between_knowing job p reads.0 old reads.1.goes_on) reads.2 (data_had musts commands served reads.0 reads.0 (knowing reads.0 old) new all reads.2) is
+data_accesses : (commands : List DataCommand) → AreDataCommands (accesses commands)
+data_accesses [] = All-nil IsData
+data_accesses (command ∷ commands) = All-cons IsData (Access command) (accesses commands) (command, refl) (data_accesses commands)
 
--- the lines of a block were done
-pub block_advances : (job : ℕ) (line : Line) (behind : Cursor) (block : Block) (old new : Running) → AreInFront job (line.text.now ∷ lines_of_script line.next.lines.now) (lines_of_script block.rest.now) block.places.items block.commands.items block.musts.items → length block.rest.now ≤ length line.next.lines.now
-    → behind.lines.now ≡ block.rest.now → ServesBlock block old new → AdvancesWithin job line behind old new
-block_advances job line behind block old new in_front fewer same serves =
-    let served : ServesWithin job (line.text.now ∷ lines_of_script line.next.lines.now) (lines_of_script behind.lines.now) old new = subst (λ (l : List ℕ). ServesWithin job (line.text.now ∷ lines_of_script line.next.lines.now) (lines_of_script l) old new) (sym same) (serves job (line.text.now ∷ lines_of_script line.next.lines.now) in_front) in
-    (record { fewer = omega (arith, fewer, ap length same); serves = served.0 }, served.1)
+-- they were done in a job's session
+held_serves : (job : ℕ) (before rest : List (List ℕ)) (hold : Lines) (served replies more_replies : List Reply) (p : Past) (session later : Option Held) → AreGathered job before rest hold → HasHeld (accesses hold.commands) served session later → more_replies ≡ replies ++ in_place hold.places served
+    → ServesWithin job before rest (running replies (sessions_so_far p session)) (running more_replies (sessions_so_far p later))
+held_serves job before rest hold served replies more_replies p None later gathered held is = absurd held
+held_serves job before rest hold served replies more_replies p (Some old) None gathered held is = absurd held
+held_serves job before rest hold served replies more_replies p (Some old) (Some new) (musts, in_front) (units, more, goes_on, done) is =
+    let all = data_accesses hold.commands in
+    data_from job before rest hold.places (accesses hold.commands) musts served replies more_replies p units more old (knowing units old) new all in_front refl (between_knowing job p units old goes_on) done (data_had musts (accesses hold.commands) served units more (knowing units old) new all done) is
+
+-- and so the job goes on behind them
+pub held_advances : (job : ℕ) (line : Line) (front : Front) (behind : Cursor) (hold : Lines) (served replies more_replies : List Reply) (p : Past) (session later : Option Held) → IsGathered job line front hold → HasHeld (accesses hold.commands) served session later → behind.lines.now ≡ front.rest.now
+    → more_replies ≡ replies ++ in_place hold.places served → AdvancesWithin job line behind (running replies (sessions_so_far p session)) (running more_replies (sessions_so_far p later))
+held_advances job line front behind hold served replies more_replies p session later h held same is =
+    let all = line.text.now ∷ lent_lines line.next.lines.now in
+    let old = running replies (sessions_so_far p session) in
+    let new = running more_replies (sessions_so_far p later) in
+    let serves : ServesWithin job all (lent_lines behind.lines.now) old new = subst (λ (ls : List (Bor (List ℕ))). ServesWithin job all (lent_lines ls) old new) (sym same) (held_serves job all (lent_lines front.rest.now) hold served replies more_replies p session later h.gathered held is) in
+    (record { fewer = omega (arith, h.fewer, ap length same); serves = serves.0 }, serves.1)
 
 -- a session was begun before it
 pub opened_advances : (job : ℕ) (line : Line) (behind : Cursor) (same old middle new : Running) → same ≡ old → middle.replies ≡ same.replies → HasDoneSteps IsNoStep job same.sessions middle.sessions → AdvancesWithin job line behind middle new → AdvancesWithin job line behind old new
@@ -142,7 +149,7 @@ opened_advances job line behind same old middle new is replied opened (h, within
       their_replies = h.serves.their_replies;
       split = h.serves.split;
       replied = h.serves.replied ∙ ap (λ (rs : List Reply). rs ++ h.serves.their_replies) replied;
-      steps = done_then (AreShown job (lines_of_script behind.lines.now) h.serves.lines_done h.serves.their_replies) job same.sessions middle.sessions new.sessions opened h.serves.steps;
+      steps = done_then (AreShown job (lent_lines behind.lines.now) h.serves.lines_done h.serves.their_replies) job same.sessions middle.sessions new.sessions opened h.serves.steps;
     };
   },
   within,

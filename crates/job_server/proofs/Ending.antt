@@ -10,7 +10,6 @@ use Rattle.job_core.specs.Sessions.{idle}
 use Rattle.pin_board.specs.Slips.{IsBeginning}
 use Rattle.shared_engine.specs.Receipts.{Book}
 use Rattle.shared_engine.specs.Sessions.{Held, held, halted}
-use Rattle.job_scripts.specs.Lines.{lines_of_script}
 use Rattle.job_server.specs.Steps.{Past, past, SessionsSoFar, sessions_so_far, none_since, IsBegunBehind, IsStepIn, AreSteps, HasDoneSteps, IsNoStep, IsReplied, AreShown, AreShownToEnd}
 use Rattle.job_server.specs.Telling.{HasStopped, Running, not_begun, Serves}
 use Rattle.job_server.proofs.Stepping.{none_done, between_opened, halt_steps, shown_to_end}
@@ -58,17 +57,17 @@ since_stays job (x ∷ xs) old new steps = since_stays job xs steps.1 new steps.
     by_step p (Some h) more (Some new) step = ap (λ (q : Past). q.since) step.1
 
 -- its steps, at the end of which it has no session
-pub run_steps : (job since : ℕ) (text : List ℕ) (old new : Running) (later : SessionsSoFar) → old ≡ not_begun since → Serves job (lines_of_script text) [] old new → HasStopped job new.sessions later
-    → HasDoneSteps (AreShownToEnd job (lines_of_script text) new.replies) job (none_since since) (sessions_so_far (past since later.past.books) None)
-run_steps job since text old new later first serves stopped =
-    let h : Serves job (lines_of_script text) [] (not_begun since) new = subst (λ (x : Running). Serves job (lines_of_script text) [] x new) first serves in
-    let lines : h.lines_done ≡ lines_of_script text = sym (h.split ∙ append-nil h.lines_done) in
-    let shown : HasDoneSteps (AreShown job [] (lines_of_script text) new.replies) job (none_since since) new.sessions =
-    subst (λ (ls : List (List ℕ)). HasDoneSteps (AreShown job [] ls new.replies) job (none_since since) new.sessions) lines
+pub run_steps : (job since : ℕ) (lines : List (List ℕ)) (old new : Running) (later : SessionsSoFar) → old ≡ not_begun since → Serves job lines [] old new → HasStopped job new.sessions later
+    → HasDoneSteps (AreShownToEnd job lines new.replies) job (none_since since) (sessions_so_far (past since later.past.books) None)
+run_steps job since lines old new later first serves stopped =
+    let h : Serves job lines [] (not_begun since) new = subst (λ (x : Running). Serves job lines [] x new) first serves in
+    let all : h.lines_done ≡ lines = sym (h.split ∙ append-nil h.lines_done) in
+    let shown : HasDoneSteps (AreShown job [] lines new.replies) job (none_since since) new.sessions =
+    subst (λ (ls : List (List ℕ)). HasDoneSteps (AreShown job [] ls new.replies) job (none_since since) new.sessions) all
     (subst (λ (rs : List Reply). HasDoneSteps (AreShown job [] h.lines_done rs) job (none_since since) new.sessions) (sym h.replied) h.steps) in
-    let over : HasDoneSteps (AreShownToEnd job (lines_of_script text) new.replies) job (none_since since) later = shown_to_end job (lines_of_script text) new.replies (none_since since) new.sessions later (none_left stopped) shown (by_stop stopped) in
-    subst (λ (n : ℕ). HasDoneSteps (AreShownToEnd job (lines_of_script text) new.replies) job (none_since since) (sessions_so_far (past n later.past.books) None)) (since_stays job over.0 (none_since since) later over.2)
-    (subst (λ (o : Option Held). HasDoneSteps (AreShownToEnd job (lines_of_script text) new.replies) job (none_since since) (sessions_so_far later.past o)) (none_left stopped) over)
+    let over : HasDoneSteps (AreShownToEnd job lines new.replies) job (none_since since) later = shown_to_end job lines new.replies (none_since since) new.sessions later (none_left stopped) shown (by_stop stopped) in
+    subst (λ (n : ℕ). HasDoneSteps (AreShownToEnd job lines new.replies) job (none_since since) (sessions_so_far (past n later.past.books) None)) (since_stays job over.0 (none_since since) later over.2)
+    (subst (λ (o : Option Held). HasDoneSteps (AreShownToEnd job lines new.replies) job (none_since since) (sessions_so_far later.past o)) (none_left stopped) over)
   where
     by_stop : HasStopped job new.sessions later → (later ≡ new.sessions) ⊎ HasDoneSteps (IsReplied Halt Finished) job new.sessions later
     by_stop (inl same) = inl same.0

@@ -1,5 +1,6 @@
 -- A job goes on, line by line.
-use Rattle.std.proofs.Common.{◌≡◌, ◌≢◌, inl, inr, ℕ, ◌<◌, Bool, true, false, List, [], ◌∷◌, ◌++◌, length, take, refl, sym, ap, ◌∙◌, subst, arith, append_assoc, append-nil}
+use Rattle.std.specs.Borrow.{Bor}
+use Rattle.std.proofs.Common.{◌≡◌, ◌≢◌, inl, inr, ℕ, ◌<◌, Bool, true, false, List, [], ◌∷◌, ◌++◌, length, refl, sym, ap, ◌∙◌, subst, arith, append_assoc, append-nil}
 use Rattle.std.specs.Prelude.{Option, Some, Result, Ok, Err, IfOk, slice_get}
 use Rattle.refusal.specs.declared.Refusal.{Refusal}
 use Rattle.command.specs.declared.request.Command.{Command}
@@ -13,14 +14,16 @@ use Rattle.shared_engine.specs.Blocks.{IsNoRestart}
 use Rattle.shared_engine.specs.Engines.{OnOkThat}
 use Rattle.shared_engine.specs.Receipts.{Book}
 use Rattle.shared_engine.specs.Sessions.{Held, knowing}
-use Rattle.job_scripts.specs.Lines.{lines_of_script, Asks, IsReadFor}
+use Rattle.job_scripts.specs.Reports.{GoesOnFrom}
+use Rattle.job_scripts.specs.Lines.{lent_lines, Asks, IsReadFor}
 use Rattle.job_scripts.specs.Reports.{Answers}
 use Rattle.job_server.specs.declared.cursor.Cursor.{Cursor}
 use Rattle.job_server.specs.declared.cursor.Line.{Line}
 use Rattle.job_server.specs.declared.fault.ServerFault.{ServerFault}
-use Rattle.job_server.specs.Served.{Wanted, IsReport, HasRunAs, IsReportAt}
+use Rattle.job_scripts.specs.Groups.{Group}
+use Rattle.job_server.specs.Served.{IsReport, HasRunAs, IsReportAt}
 use Rattle.job_server.specs.Steps.{Past, SessionsSoFar, sessions_so_far, HasDoneSteps, IsNoStep, IsReplied, IsHad, IsShownBy, IsNoEnd, AreShown}
-use Rattle.job_server.specs.Telling.{IsNoCommit, EndsNone, IsDoneAs, Running, Serves, IsWithin, AreWithin, ServesWithin, Advances, AdvancesWithin, Reaches, ReachesWithin, Begins, WasOvertaken, IsBack, GoesOnFrom}
+use Rattle.job_server.specs.Telling.{IsNoCommit, EndsNone, IsDoneAs, Running, Serves, IsWithin, AreWithin, ServesWithin, Advances, AdvancesWithin, Reaches, ReachesWithin, Begins, WasOvertaken, IsBack}
 use Rattle.job_server.proofs.Stepped.{halt_stepped}
 use Rattle.job_server.proofs.Stepping.{between_same, no_steps, none_done, shows_other, call_steps, line_shown, shown_behind, shown_tried, tried_to, asks_once, other_no_end, command_no_end, refused_no_end}
 
@@ -69,21 +72,21 @@ serves_then job lines middle rest old between new h k = record {
 serves_none : (job : ℕ) (lines : List (List ℕ)) (now : Running) → Serves job lines lines now now
 serves_none job lines now = record { lines_done = []; their_replies = []; split = refl; replied = sym (append-nil now.replies); steps = ([], refl, no_steps job now.sessions) }
 
-pub reaches_none : (job : ℕ) (text : List ℕ) (place : Cursor) (now : Running) → place.lines.now ≡ text → Reaches job text place now now
-reaches_none job text place now same = subst (λ (t : List ℕ). Reaches job t place now now) same (record { fewer = omega arith; serves = serves_none job (lines_of_script place.lines.now) now })
+pub reaches_none : (job : ℕ) (text : List (Bor (List ℕ))) (place : Cursor) (now : Running) → place.lines.now ≡ text → Reaches job text place now now
+reaches_none job text place now same = subst (λ (t : List (Bor (List ℕ))). Reaches job t place now now) same (record { fewer = omega arith; serves = serves_none job (lent_lines place.lines.now) now })
 
 -- a line more, with perhaps some behind it
-pub reaches_on : (job : ℕ) (text : List ℕ) (place : Cursor) (line : Line) (behind : Cursor) (old between new : Running) → Reaches job text place old between → lines_of_script place.lines.now ≡ line.text.now ∷ lines_of_script line.next.lines.now
+pub reaches_on : (job : ℕ) (text : List (Bor (List ℕ))) (place : Cursor) (line : Line) (behind : Cursor) (old between new : Running) → Reaches job text place old between → lent_lines place.lines.now ≡ line.text.now ∷ lent_lines line.next.lines.now
     → length line.next.lines.now < length place.lines.now → Advances job line behind between new → Reaches job text behind old new
 reaches_on job text place line behind old between new h first shorter step = record {
   fewer = omega (arith, h.fewer, shorter, step.fewer);
-  serves = serves_then job (lines_of_script text) (lines_of_script place.lines.now) (lines_of_script behind.lines.now) old between new h.serves
-      (subst (λ (ls : List (List ℕ)). Serves job ls (lines_of_script behind.lines.now) between new) (sym first) step.serves);
+  serves = serves_then job (lent_lines text) (lent_lines place.lines.now) (lent_lines behind.lines.now) old between new h.serves
+      (subst (λ (ls : List (List ℕ)). Serves job ls (lent_lines behind.lines.now) between new) (sym first) step.serves);
 }
 
 -- no line is left
-pub reaches_end : (job : ℕ) (text : List ℕ) (place : Cursor) (old new : Running) → Reaches job text place old new → lines_of_script place.lines.now ≡ [] → Serves job (lines_of_script text) [] old new
-reaches_end job text place old new h none = subst (λ (ls : List (List ℕ)). Serves job (lines_of_script text) ls old new) none h.serves
+pub reaches_end : (job : ℕ) (text : List (Bor (List ℕ))) (place : Cursor) (old new : Running) → Reaches job text place old new → lent_lines place.lines.now ≡ [] → Serves job (lent_lines text) [] old new
+reaches_end job text place old new h none = subst (λ (ls : List (List ℕ)). Serves job (lent_lines text) ls old new) none h.serves
 
 -- ---- one line
 
@@ -110,7 +113,7 @@ line_advances : (job : ℕ) (line : Line) (asked : Result Command Refusal) (repl
     → HasDoneSteps (IsDoneAs line.text.now asked reply) job old.sessions new.sessions → Advances job line line.next old new
 line_advances job line asked reply old new asks kept replied h = record {
   fewer = omega arith;
-  serves = record { lines_done = line.text.now ∷ []; their_replies = reply ∷ []; split = refl; replied = replied; steps = line_shown_as job (lines_of_script line.next.lines.now) line.text.now asked reply old.sessions new.sessions asks kept h };
+  serves = record { lines_done = line.text.now ∷ []; their_replies = reply ∷ []; split = refl; replied = replied; steps = line_shown_as job (lent_lines line.next.lines.now) line.text.now asked reply old.sessions new.sessions asks kept h };
 }
 
 line_within : (job : ℕ) (line : Line) (asked : Result Command Refusal) (reply : Reply) (old new : Running) → IsReadFor job line.text.now asked → ((command : Command) → asked ≡ Ok command → IsNoRestart command reply) → new.replies ≡ old.replies ++ reply ∷ []
@@ -158,7 +161,7 @@ was_overtaken job line command reply old new asks h again kept = (
 pub begins : (job : ℕ) (line : Line) (reply : Reply) (old new : Running) → Asks job line.text.now Start → reply ≡ AtLevel 1 → new.replies ≡ old.replies ++ reply ∷ [] → HasDoneSteps (IsDoneAs line.text.now (Ok Start) reply) job old.sessions new.sessions → Begins job line old new
 begins job line reply old new asks is replied h = record {
   replied = replied ∙ ap (λ (r : Reply). old.replies ++ r ∷ []) is;
-  steps = line_shown_as job (lines_of_script line.next.lines.now) line.text.now (Ok Start) (AtLevel 1) old.sessions new.sessions asks (λ command same commit restarts again. absurd (cc))
+  steps = line_shown_as job (lent_lines line.next.lines.now) line.text.now (Ok Start) (AtLevel 1) old.sessions new.sessions asks (λ command same commit restarts again. absurd (cc))
       (subst (λ (r : Reply). HasDoneSteps (IsDoneAs line.text.now (Ok Start) r) job old.sessions new.sessions) is h);
 }
 
@@ -172,15 +175,15 @@ begun_where job line reply false same old new is asks found replied h = tt
 pub begins_again : (job : ℕ) (line : Line) (old middle tried new : Running) → Asks job line.text.now Start → Begins job line old middle → IsBack job line.next.lines.now middle tried → new.sessions ≡ tried.sessions → new.replies ≡ middle.replies → Begins job line old new
 begins_again job line old middle tried new asks h back kept same = record {
   replied = same ∙ h.replied;
-  steps = subst (λ (x : SessionsSoFar). HasDoneSteps (AreShown job (lines_of_script line.next.lines.now) (line.text.now ∷ []) (AtLevel 1 ∷ [])) job old.sessions x) (sym kept)
-      (shown_tried job line.text.now (lines_of_script line.next.lines.now) old.sessions middle.sessions tried.sessions asks h.steps back);
+  steps = subst (λ (x : SessionsSoFar). HasDoneSteps (AreShown job (lent_lines line.next.lines.now) (line.text.now ∷ []) (AtLevel 1 ∷ [])) job old.sessions x) (sym kept)
+      (shown_tried job line.text.now (lent_lines line.next.lines.now) old.sessions middle.sessions tried.sessions asks h.steps back);
 }
 
 -- the lines behind the TSTART were done
 pub begins_advances : (job : ℕ) (line : Line) (behind : Cursor) (old middle new : Running) → Begins job line old middle → Reaches job line.next.lines.now behind middle new → Advances job line behind old new
 begins_advances job line behind old middle new h reached = record {
   fewer = reached.fewer;
-  serves = serves_then job (line.text.now ∷ lines_of_script line.next.lines.now) (lines_of_script line.next.lines.now) (lines_of_script behind.lines.now) old middle new
+  serves = serves_then job (line.text.now ∷ lent_lines line.next.lines.now) (lent_lines line.next.lines.now) (lent_lines behind.lines.now) old middle new
       (record { lines_done = line.text.now ∷ []; their_replies = AtLevel 1 ∷ []; split = refl; replied = h.replied; steps = h.steps }) reached.serves;
 }
 
@@ -191,41 +194,29 @@ within_then job [] back (reply ∷ replies) more first second = absurd first
 within_then job (line ∷ front) back [] more first second = absurd first
 within_then job (line ∷ front) back (reply ∷ replies) more first second = (first.0, within_then job front back replies more first.1 second)
 
-pub within_none : (job : ℕ) (text : List ℕ) (place : Cursor) (now : Running) → place.lines.now ≡ text → ReachesWithin job text place now now
+pub within_none : (job : ℕ) (text : List (Bor (List ℕ))) (place : Cursor) (now : Running) → place.lines.now ≡ text → ReachesWithin job text place now now
 unfolding serves_none
-within_none job text place now same = subst (λ (t : List ℕ). ReachesWithin job t place now now) same (record { fewer = omega arith; serves = serves_none job (lines_of_script place.lines.now) now }, tt)
+within_none job text place now same = subst (λ (t : List (Bor (List ℕ))). ReachesWithin job t place now now) same (record { fewer = omega arith; serves = serves_none job (lent_lines place.lines.now) now }, tt)
 
-pub within_on : (job : ℕ) (text : List ℕ) (place : Cursor) (line : Line) (behind : Cursor) (old between new : Running) → ReachesWithin job text place old between → lines_of_script place.lines.now ≡ line.text.now ∷ lines_of_script line.next.lines.now
+pub within_on : (job : ℕ) (text : List (Bor (List ℕ))) (place : Cursor) (line : Line) (behind : Cursor) (old between new : Running) → ReachesWithin job text place old between → lent_lines place.lines.now ≡ line.text.now ∷ lent_lines line.next.lines.now
     → length line.next.lines.now < length place.lines.now → AdvancesWithin job line behind between new → ReachesWithin job text behind old new
 unfolding serves_then
 within_on job text place line behind old between new h first shorter step =
-    let served : ServesWithin job (lines_of_script place.lines.now) (lines_of_script behind.lines.now) between new = subst (λ (ls : List (List ℕ)). ServesWithin job ls (lines_of_script behind.lines.now) between new) (sym first) (step.0.serves, step.1) in (
+    let served : ServesWithin job (lent_lines place.lines.now) (lent_lines behind.lines.now) between new = subst (λ (ls : List (List ℕ)). ServesWithin job ls (lent_lines behind.lines.now) between new) (sym first) (step.0.serves, step.1) in (
       record {
         fewer = omega (arith, h.0.fewer, shorter, step.0.fewer);
-        serves = serves_then job (lines_of_script text) (lines_of_script place.lines.now) (lines_of_script behind.lines.now) old between new h.0.serves served.0;
+        serves = serves_then job (lent_lines text) (lent_lines place.lines.now) (lent_lines behind.lines.now) old between new h.0.serves served.0;
       },
       within_then job h.0.serves.lines_done served.0.lines_done h.0.serves.their_replies served.0.their_replies h.1 served.1,
     )
 
 -- a line of a try found that the transaction was overtaken
-pub is_back : (job : ℕ) (text : List ℕ) (place : Cursor) (line : Line) (old middle new : Running) → ReachesWithin job text place old middle → lines_of_script place.lines.now ≡ line.text.now ∷ lines_of_script line.next.lines.now → WasOvertaken job line.text.now middle new → IsBack job text old new
+pub is_back : (job : ℕ) (text : List (Bor (List ℕ))) (place : Cursor) (line : Line) (old middle new : Running) → ReachesWithin job text place old middle → lent_lines place.lines.now ≡ line.text.now ∷ lent_lines line.next.lines.now → WasOvertaken job line.text.now middle new → IsBack job text old new
 is_back job text place line old middle new (h, within) next over =
-    tried_to job (lines_of_script text) h.serves.lines_done (lines_of_script place.lines.now) (lines_of_script line.next.lines.now) line.text.now h.serves.their_replies over.1 over.3 old.sessions middle.sessions new.sessions h.serves.split next over.2 within h.serves.steps over.4
+    tried_to job (lent_lines text) h.serves.lines_done (lent_lines place.lines.now) (lent_lines line.next.lines.now) line.text.now h.serves.their_replies over.1 over.3 old.sessions middle.sessions new.sessions h.serves.split next over.2 within h.serves.steps over.4
 
-pub tried_replies : (job : ℕ) (text line : List ℕ) (place : Cursor) (old middle new : Running) → ReachesWithin job text place old middle → WasOvertaken job line middle new → GoesOnFrom old.replies new.replies
+pub tried_replies : (job : ℕ) (text : List (Bor (List ℕ))) (line : List ℕ) (place : Cursor) (old middle new : Running) → ReachesWithin job text place old middle → WasOvertaken job line middle new → GoesOnFrom old.replies new.replies
 tried_replies job text line place old middle new h over = (h.0.serves.their_replies, over.0 ∙ h.0.serves.replied)
-
--- the replies of a try are cut off
-pub cut_back : (old tried now : List Reply) (kept : ℕ) → GoesOnFrom old tried → kept ≡ length old → now ≡ take kept tried → now ≡ old
-cut_back old tried now kept more is cut = cut ∙ (ap (λ (k : ℕ). take k tried) is ∙ (ap (λ (rs : List Reply). take (length old) rs) more.1 ∙ taken old more.0))
-  where
-    take_zero : (back : List Reply) → take 0 back ≡ []
-    take_zero [] = refl
-    take_zero (r ∷ rs) = refl
-
-    taken : (front back : List Reply) → take (length front) (front ++ back) ≡ front
-    taken [] back = take_zero back
-    taken (r ∷ rs) back = ap (λ (l : List Reply). r ∷ l) (taken rs back)
 
 -- ---- answers and reports
 
@@ -234,5 +225,5 @@ pub both_ok : {A E : Type 0} {P Q R : A → Type 0} (r : Result A E) → ((a : A
 both_ok (Ok a) f p q = f a p q
 both_ok (Err e) f p q = tt
 
-pub at_place : (scripts : List Wanted) (place since : ℕ) (w : Wanted) (report : Answers) (books : List Book) → slice_get scripts place ≡ Some w → IsReport w report → HasRunAs since w report books → ∥ IsReportAt scripts place since report books ∥₁
+pub at_place : (scripts : List Group) (place since : ℕ) (w : Group) (report : Answers) (books : List Book) → slice_get scripts place ≡ Some w → IsReport w report → HasRunAs since w report books → ∥ IsReportAt scripts place since report books ∥₁
 at_place scripts place since w report books at is run = ∣ record { script = w; at = at; is_report = is; has_run = run } ∣₁

@@ -9,6 +9,7 @@ pub mod Histories
 pub mod Lasting
 pub mod Levels
 pub mod Loads
+pub mod OneMore
 pub mod OneRun
 pub mod Outputs
 pub mod Reading

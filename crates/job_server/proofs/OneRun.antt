@@ -16,12 +16,12 @@ use Rattle.pin_board.specs.Slips.{weigh}
 use Rattle.shared_engine.specs.Receipts.{Book}
 use Rattle.shared_engine.specs.Engines.{AreAllUnits, HasSeenOf, units_weigh}
 use Rattle.shared_engine.specs.Histories.{WroteAll}
-use Rattle.job_scripts.specs.Lines.{lines_of_script}
 use Rattle.job_scripts.specs.Reports.{Answers}
 use Rattle.loading.specs.Settings.{Setting}
 use Rattle.job_server.specs.Steps.{past, sessions_so_far, none_since, AreBefore, AreSteps, HasRunScript}
 use Rattle.job_server.specs.Loads.{load_books, HasRunLoad}
-use Rattle.job_server.specs.Served.{Wanted, AreOfJob, IsLoadedBy, IsShownAs, IsReport, AreShownAll, IsRun, IsNoJobOf, AreApart, HasRunAs, HaveRun, all_of}
+use Rattle.job_scripts.specs.Groups.{Group}
+use Rattle.job_server.specs.Served.{AreOfJob, IsLoadedBy, IsShownAs, IsReport, AreShownAll, IsRun, IsNoJobOf, AreApart, HasRunAs, HaveRun, all_of}
 use Rattle.job_server.proofs.Histories.{Laws, all_told, joined_steps, wrote_more}
 
 -- ---- the steps of a job among others
@@ -117,7 +117,7 @@ told_history : (log : List JournalUnit) (job since : ℕ) (books : List Book) (x
 told_history log job since books xs laws few seen steps = ((all_told laws job since books xs steps).told log seen few).history
 
 -- what the scripts' jobs did, behind a load's sessions
-record AreGathered (log : List JournalUnit) (since : ℕ) (ws : List Wanted) (reports : List Answers) (owns : List (List Book)) : Type 0 where
+record AreGathered (log : List JournalUnit) (since : ℕ) (ws : List Group) (reports : List Answers) (owns : List (List Book)) : Type 0 where
   pub own : List Told
   pub shown : AreShownAll ws reports own
   pub wrote : WroteAll own (all_of owns)
@@ -125,28 +125,28 @@ record AreGathered (log : List JournalUnit) (since : ℕ) (ws : List Wanted) (re
   pub history : (job : ℕ) (front : List Book) (load : List Told) → All (HasSeenOf log) front → AreBefore since front → AreSteps job load (none_since 0) (sessions_so_far (past 0 front) None) → IsHistory log job 0 nothing_done (load ++ of_job job own)
 
 -- one more script
-with_script : (log : List JournalUnit) (since : ℕ) (w : Wanted) (ws : List Wanted) (report : Answers) (reports : List Answers) (books : List Book) (owns : List (List Book)) (job : Option ℕ) → Laws → length log < 2 ^ 64 → w.job ≡ job → IfSome job (λ j. IsNoJobOf j ws) → All (HasSeenOf log) books
+with_script : (log : List JournalUnit) (since : ℕ) (w : Group) (ws : List Group) (report : Answers) (reports : List Answers) (books : List Book) (owns : List (List Book)) (job : Option ℕ) → Laws → length log < 2 ^ 64 → w.job ≡ job → IfSome job (λ j. IsNoJobOf j ws) → All (HasSeenOf log) books
     → IsReport w report → HasRunAs since w report books → AreGathered log since ws reports owns → AreGathered log since (w ∷ ws) (report ∷ reports) (books ∷ owns)
 with_script log since w ws report reports books owns None laws few is apart seen told run rest = record {
   own = rest.own;
-  shown = ([], rest.own, refl, told, subst (λ (o : Option ℕ). IsShownAs o (lines_of_script w.text) report.replies []) (sym is) (refl, alone.1), rest.shown);
+  shown = ([], rest.own, refl, told, subst (λ (o : Option ℕ). IsShownAs o w.lines report.replies []) (sym is) (refl, alone.1), rest.shown);
   wrote = subst (λ (bs : List Book). WroteAll rest.own (bs ++ all_of owns)) (sym alone.0) rest.wrote;
   others = λ other none. rest.others other none.1;
   history = rest.history;
 }
   where
-    alone : HasRunScript since None w.text report.replies books
-    alone = subst (λ (o : Option ℕ). HasRunScript since o w.text report.replies books) is run
+    alone : HasRunScript since None w.lines report.replies books
+    alone = subst (λ (o : Option ℕ). HasRunScript since o w.lines report.replies books) is run
 with_script log since w ws report reports books owns (Some job) laws few is apart seen told run rest = record {
   own = xs ++ rest.own;
-  shown = (xs, rest.own, refl, told, subst (λ (o : Option ℕ). IsShownAs o (lines_of_script w.text) report.replies xs) (sym is) (of_one, did.1), rest.shown);
+  shown = (xs, rest.own, refl, told, subst (λ (o : Option ℕ). IsShownAs o w.lines report.replies xs) (sym is) (of_one, did.1), rest.shown);
   wrote = wrote_all xs rest.own books (all_of owns) (all_told laws job since books xs did.2).wrote rest.wrote;
   others = λ other none. of_append other xs rest.own ∙ (λ i. other_none job other xs of_one (λ same. none.0 (is ∙ ap (λ (j : ℕ). Some j) same)) i ++ rest.others other none.1 i);
   history = λ other front load known before steps. by_job other front load known before steps (same_or_not other job);
 }
   where
-    did : HasRunScript since (Some job) w.text report.replies books
-    did = subst (λ (o : Option ℕ). HasRunScript since o w.text report.replies books) is run
+    did : HasRunScript since (Some job) w.lines report.replies books
+    did = subst (λ (o : Option ℕ). HasRunScript since o w.lines report.replies books) is run
 
     xs : List Told
     xs = did.0
@@ -168,7 +168,7 @@ with_script log since w ws report reports books owns (Some job) laws few is apar
         subst (λ (zs : List Told). IsHistory log other 0 nothing_done (load ++ zs)) (sym (of_append other xs rest.own ∙ ap (λ (zs : List Told). zs ++ of_job other rest.own) (other_none job other xs of_one (λ e. differs (sym e)))))
         (rest.history other front load known before steps)
 
-gathered : (log : List JournalUnit) (since : ℕ) (ws : List Wanted) (reports : List Answers) (owns : List (List Book)) → Laws → length log < 2 ^ 64 → AreApart ws → All (HasSeenOf log) (all_of owns) → HaveRun since ws reports owns → AreGathered log since ws reports owns
+gathered : (log : List JournalUnit) (since : ℕ) (ws : List Group) (reports : List Answers) (owns : List (List Book)) → Laws → length log < 2 ^ 64 → AreApart ws → All (HasSeenOf log) (all_of owns) → HaveRun since ws reports owns → AreGathered log since ws reports owns
 gathered log since [] [] [] laws few apart seen run = record {
   own = [];
   shown = refl;
@@ -185,7 +185,7 @@ gathered log since (w ∷ ws) (report ∷ reports) (own ∷ owns) laws few apart
 
 -- ---- behind a load
 
-run_behind : (log : List JournalUnit) (since : ℕ) (settings : List Setting) (front : List Book) (load : List Told) (ws : List Wanted) (reports : List Answers) (owns : List (List Book)) → Laws → length log < 2 ^ 64 → AreBefore since front → All (HasSeenOf log) front → AreAllUnits log (front ++ all_of owns)
+run_behind : (log : List JournalUnit) (since : ℕ) (settings : List Setting) (front : List Book) (load : List Told) (ws : List Group) (reports : List Answers) (owns : List (List Book)) → Laws → length log < 2 ^ 64 → AreBefore since front → All (HasSeenOf log) front → AreAllUnits log (front ++ all_of owns)
     → AreSteps 1 load (none_since 0) (sessions_so_far (past 0 front) None) → IsLoadedBy settings load → AreGathered log since ws reports owns → IsRun settings ws reports log
 run_behind log since settings front load ws reports owns laws few before seen units steps loaded g =
     let one = one_interleaving log (load ++ g.own) (λ job. history job (same_or_not job 1)) written in
@@ -207,7 +207,7 @@ run_behind log since settings front load ws reports owns laws few before seen un
         subst (IsHistory log job 0 nothing_done) (sym (of_append job load g.own ∙ ap (λ (zs : List Told). zs ++ of_job job g.own) (other_none 1 job load of_first (λ e. differs (sym e)))))
         (g.history job [] [] (All-nil (HasSeenOf log)) tt (refl, tt))
 
-pub is_run : (log ended : List JournalUnit) (since : ℕ) (settings : List Setting) (ws : List Wanted) (reports : List Answers) (owns : List (List Book)) → Laws → length log < 2 ^ 64 → AreApart ws → AreBefore since (load_books ended settings) → All (HasSeenOf log) (load_books ended settings ++ all_of owns)
+pub is_run : (log ended : List JournalUnit) (since : ℕ) (settings : List Setting) (ws : List Group) (reports : List Answers) (owns : List (List Book)) → Laws → length log < 2 ^ 64 → AreApart ws → AreBefore since (load_books ended settings) → All (HasSeenOf log) (load_books ended settings ++ all_of owns)
     → AreAllUnits log (load_books ended settings ++ all_of owns) → HaveRun since ws reports owns → HasRunLoad settings (load_books ended settings) → IsRun settings ws reports log
 is_run log ended since [] ws reports owns laws few apart before seen units run loaded =
     run_behind log since [] [] [] ws reports owns laws few tt (All-nil (HasSeenOf log)) units (refl, tt) refl (gathered log since ws reports owns laws few apart seen run)

@@ -1,5 +1,5 @@
 -- What is written is an output of many jobs.
-use Rattle.std.proofs.Common.{◌≡◌, inr, ℕ, Bool, List, [], ◌∷◌, ◌++◌, map, Option, refl, ap, ◌∙◌}
+use Rattle.std.proofs.Common.{◌≡◌, inr, ℕ, Bool, List, ◌++◌, map, Option, refl, subst}
 use Rattle.std.proofs.Math.Logic.{∥∥₁_map}
 use Rattle.std.specs.List.{list_any}
 use Rattle.journal.specs.declared.unit.Unit.{Unit as JournalUnit}
@@ -7,26 +7,20 @@ use Rattle.journal.specs.History.{initial, after, IsLegal}
 use Rattle.job_scripts.specs.declared.lines.Script.{Script}
 use Rattle.job_scripts.specs.Groups.{Group, groups_in, shown}
 use Rattle.job_scripts.specs.Reports.{Answers, reports_text, some_refused}
-use Rattle.job_server.specs.Served.{wanted, AreAnswered, AreServed}
+use Rattle.job_server.specs.Served.{AreAnswered, AreServed}
 use Rattle.listing.specs.Bytes.{WritesBeginning}
 use Rattle.job_server.specs.Output.{ending, IsJobsOutput, IsBegun}
-use Rattle.job_server.specs.Texts.{group_of_script, IsServed}
+use Rattle.job_server.specs.Texts.{IsServed}
 use Rattle.job_server.proofs.Apart.{apart_of}
 
-same_groups : (scripts : List Script) → map group_of_script (map wanted scripts) ≡ map shown scripts
-same_groups [] = refl
-same_groups (s ∷ ss) = ap (λ (l : List Group). shown s ∷ l) (same_groups ss)
-
 -- the scripts of a text are of different jobs
-pub served : (listing : List ℕ) (scripts : List Script) (reports : List Answers) (units : List JournalUnit) (text : List ℕ) → AreServed listing (map wanted scripts) reports units → map shown scripts ≡ groups_in text → IsLegal units initial → IsServed listing text reports units
+pub served : (listing : List ℕ) (scripts : List Script) (reports : List Answers) (units : List JournalUnit) (text : List ℕ) → AreServed listing (map shown scripts) reports units → map shown scripts ≡ groups_in text → IsLegal units initial → IsServed listing text reports units
 served listing scripts reports units text is g legal =
-    let groups = same_groups scripts ∙ g in
+    let own : AreServed listing (groups_in text) reports units = subst (λ (gs : List Group). AreServed listing gs reports units) g is in
     record {
-      scripts = map wanted scripts;
-      of_groups = groups;
-      settings = is.settings;
-      loaded = is.loaded;
-      run = ∥∥₁_map is.answered (λ (x : AreAnswered is.settings (map wanted scripts) reports units). x.run (apart_of text (map wanted scripts) groups));
+      settings = own.settings;
+      loaded = own.loaded;
+      run = ∥∥₁_map own.answered (λ (x : AreAnswered own.settings (groups_in text) reports units). x.run (apart_of text));
       legal = legal;
     }
 

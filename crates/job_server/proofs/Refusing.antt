@@ -8,7 +8,6 @@ use Rattle.command.specs.declared.request.Reply.{Reply}
 use Rattle.command.specs.declared.request.Reply.TheVariants.{Refused}
 use Rattle.script.specs.Line.{reading_of, IsRefusalOf}
 use Rattle.shared_engine.specs.Receipts.{Book}
-use Rattle.job_scripts.specs.Lines.{lines_of_script}
 use Rattle.job_server.specs.Steps.{IsRefusedAlone, AreRefusedAlone, HasRunScript}
 use Rattle.job_server.specs.Telling.{Refuses}
 
@@ -38,7 +37,7 @@ refuses_then lines middle rest old between new h k = record {
 }
 
 -- all lines, and no step is done
-pub none_run : (since : ℕ) (job : Option ℕ) (text : List ℕ) (none replies : List Reply) (books : List Book) → job ≡ None → none ≡ [] → books ≡ [] → Refuses (lines_of_script text) [] none replies → HasRunScript since job text replies books
-none_run since job text none replies books no_job empty no_books h =
-    subst (λ (o : Option ℕ). HasRunScript since o text replies books) (sym no_job)
-    (no_books, subst (λ (rs : List Reply). AreRefusedAlone (lines_of_script text) rs) (append-nil h.their_replies ∙ sym (h.replied ∙ ap (λ (rs : List Reply). rs ++ h.their_replies) empty)) (h.replies_are [] tt))
+pub none_run : (since : ℕ) (job : Option ℕ) (lines : List (List ℕ)) (none replies : List Reply) (books : List Book) → job ≡ None → none ≡ [] → books ≡ [] → Refuses lines [] none replies → HasRunScript since job lines replies books
+none_run since job lines none replies books no_job empty no_books h =
+    subst (λ (o : Option ℕ). HasRunScript since o lines replies books) (sym no_job)
+    (no_books, subst (λ (rs : List Reply). AreRefusedAlone lines rs) (append-nil h.their_replies ∙ sym (h.replied ∙ ap (λ (rs : List Reply). rs ++ h.their_replies) empty)) (h.replies_are [] tt))

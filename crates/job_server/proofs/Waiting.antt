@@ -1,4 +1,5 @@
 -- A block whose LOCK was blocked: its job waits for the names, and its transaction begins anew.
+use Rattle.std.specs.Borrow.{Bor}
 use Rattle.std.proofs.Common.{◌≡◌, ℕ, zero, suc, ◌≤◌, ◌<◌, Bool, List, [], ◌∷◌, ◌++◌, length, refl, sym, ap, subst, arith}
 use Rattle.std.specs.Prelude.{Option, Some, None, Result, Ok, slice_index_or}
 use Rattle.refusal.specs.declared.Refusal.{Refusal}
@@ -16,7 +17,7 @@ use Rattle.pin_board.specs.Slips.{IsBeginning}
 use Rattle.shared_engine.specs.Blocks.{said, must_in, HasCome}
 use Rattle.shared_engine.specs.Engines.{gone_back}
 use Rattle.job_scripts.specs.Blocks.{in_place, IsOneBlock, AreInFront}
-use Rattle.job_scripts.specs.Lines.{lines_of_script}
+use Rattle.job_scripts.specs.Lines.{lent_lines}
 use Rattle.job_server.specs.declared.cursor.Cursor.{Cursor}
 use Rattle.job_server.specs.Steps.{Past, SessionsSoFar, sessions_so_far, WasDoneBy, HasDoneSteps, OneAsks, AreTries}
 use Rattle.job_server.specs.Telling.{HasLocked, Running, running, BeganAnew, HasRunAnew, HasWaited, HasWaitedFor, Serves, IsBackAt, HasTriedAlone}
@@ -50,8 +51,8 @@ waited command done old begun locked new first tried last = record { begun = beg
 -- ---- tries
 
 -- where a block's LOCK was blocked, its job has waited for these names
-pub blocked_back : (job : ℕ) (text : List ℕ) (rest : List (List ℕ)) (places : List (Option Refusal)) (commands : List Command) (musts : List Bool) (run : SerialRun) (place : ℕ) (command : LockCommand) (replies more_replies : List Reply) (p : Past) (session middle later : Option Held)
-    → AreInFront job (lines_of_script text) rest places commands musts → IsOneBlock 1 commands → HasRunAnew musts commands run session middle → run ≡ Blocked place → OneAsks job (lines_of_script text) (lock_command command) → HasWaitedFor command middle later → more_replies ≡ replies
+pub blocked_back : (job : ℕ) (text : List (Bor (List ℕ))) (rest : List (List ℕ)) (places : List (Option Refusal)) (commands : List Command) (musts : List Bool) (run : SerialRun) (place : ℕ) (command : LockCommand) (replies more_replies : List Reply) (p : Past) (session middle later : Option Held)
+    → AreInFront job (lent_lines text) rest places commands musts → IsOneBlock 1 commands → HasRunAnew musts commands run session middle → run ≡ Blocked place → OneAsks job (lent_lines text) (lock_command command) → HasWaitedFor command middle later → more_replies ≡ replies
     → IsBackAt job text (running replies (sessions_so_far p session)) (running more_replies (sessions_so_far p later))
 blocked_back job text rest places commands musts run place command replies more_replies p None middle later in_front one ran blocked asks waited same = absurd ran
 blocked_back job text rest places commands musts run place command replies more_replies p (Some old) None later in_front one ran blocked asks waited same = absurd ran
@@ -65,7 +66,7 @@ blocked_back job text rest places commands musts run place command replies more_
     begun = begun_anew units old
 
     lines : List (List ℕ)
-    lines = lines_of_script text
+    lines = lent_lines text
 
     stands_with : Held → SessionsSoFar
     stands_with h = sessions_so_far p (Some h)
@@ -86,8 +87,8 @@ blocked_back job text rest places commands musts run place command replies more_
 -- ---- the end of a try
 
 -- the lines of a block were done from where its transaction began anew
-pub anew_reaches : (job : ℕ) (text rest : List ℕ) (behind : Cursor) (places : List (Option Refusal)) (commands : List Command) (musts : List Bool) (run : SerialRun) (served replies more_replies : List Reply) (p : Past) (session later : Option Held) → length rest ≤ length text → behind.lines.now ≡ rest
-    → AreInFront job (lines_of_script text) (lines_of_script rest) places commands musts → HasRunAnew musts commands run session later → IsAll run served → more_replies ≡ replies ++ in_place places served
+pub anew_reaches : (job : ℕ) (text rest : List (Bor (List ℕ))) (behind : Cursor) (places : List (Option Refusal)) (commands : List Command) (musts : List Bool) (run : SerialRun) (served replies more_replies : List Reply) (p : Past) (session later : Option Held) → length rest ≤ length text → behind.lines.now ≡ rest
+    → AreInFront job (lent_lines text) (lent_lines rest) places commands musts → HasRunAnew musts commands run session later → IsAll run served → more_replies ≡ replies ++ in_place places served
     → HasTriedAlone job text (Some behind) (running replies (sessions_so_far p session)) (running more_replies (sessions_so_far p later))
 anew_reaches job text rest behind places commands musts run served replies more_replies p None later fewer same in_front ran all is = absurd ran
 anew_reaches job text rest behind places commands musts run served replies more_replies p (Some old) None fewer same in_front ran all is = absurd ran
@@ -96,16 +97,16 @@ anew_reaches job text rest behind places commands musts run served replies more_
     let begun : Held = begun_anew units old in
     let middle : Running = running replies (sessions_so_far p (Some begun)) in (
       middle,
-      (tries_done job (lines_of_script text) (sessions_so_far p (Some old)) (sessions_so_far p (Some begun)) (restart_tries job (lines_of_script text) p begun.state.restarts old begun (begins_anew ran.1 old ran.0 ran.2)), refl),
+      (tries_done job (lent_lines text) (sessions_so_far p (Some old)) (sessions_so_far p (Some begun)) (restart_tries job (lent_lines text) p begun.state.restarts old begun (begins_anew ran.1 old ran.0 ran.2)), refl),
       record {
         fewer = omega (arith, fewer, ap length same);
-        serves = subst (λ (l : List ℕ). Serves job (lines_of_script text) (lines_of_script l) middle (running more_replies (sessions_so_far p (Some new)))) (sym same)
-            (anew_serves job (lines_of_script text) (lines_of_script rest) places commands musts run served replies more_replies p units new.seen begun new refl in_front ran.3 all is);
+        serves = subst (λ (l : List (Bor (List ℕ))). Serves job (lent_lines text) (lent_lines l) middle (running more_replies (sessions_so_far p (Some new)))) (sym same)
+            (anew_serves job (lent_lines text) (lent_lines rest) places commands musts run served replies more_replies p units new.seen begun new refl in_front ran.3 all is);
       },
     )
 
-pub tried_alone : (job : ℕ) (text : List ℕ) (ended : Option Cursor) (behind : Cursor) (old new : Running) → HasTriedAlone job text ended old new → ended ≡ Some behind → HasTriedAlone job text (Some behind) old new
+pub tried_alone : (job : ℕ) (text : List (Bor (List ℕ))) (ended : Option Cursor) (behind : Cursor) (old new : Running) → HasTriedAlone job text ended old new → ended ≡ Some behind → HasTriedAlone job text (Some behind) old new
 tried_alone job text ended behind old new h is = subst (λ (o : Option Cursor). HasTriedAlone job text o old new) is h
 
-pub tried_back : (job : ℕ) (text : List ℕ) (ended : Option Cursor) (old new : Running) → HasTriedAlone job text ended old new → ended ≡ None → IsBackAt job text old new
+pub tried_back : (job : ℕ) (text : List (Bor (List ℕ))) (ended : Option Cursor) (old new : Running) → HasTriedAlone job text ended old new → ended ≡ None → IsBackAt job text old new
 tried_back job text ended old new h is = subst (λ (o : Option Cursor). HasTriedAlone job text o old new) is h

@@ -1,5 +1,6 @@
 pub mod Codes
 pub mod Faults
+pub mod Holding
 pub mod Loads
 pub mod Output
 pub mod Replying

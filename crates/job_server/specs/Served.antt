@@ -8,20 +8,10 @@ use Rattle.journal.specs.Story.{nothing_done}
 use Rattle.serial.specs.Interleaving.{Told, of_job, IsOneRun}
 use Rattle.shared_engine.specs.Receipts.{Book}
 use Rattle.loading.specs.Settings.{Setting, settings_of}
-use Rattle.job_scripts.specs.declared.lines.Script.{Script}
-use Rattle.job_scripts.specs.Lines.{lines_of_script}
+use Rattle.job_scripts.specs.Groups.{Group}
 use Rattle.job_scripts.specs.Reports.{Answers}
 use Rattle.job_server.specs.Loads.{BeginsWith, AreLoadSteps}
 use Rattle.job_server.specs.Steps.{AreShownToEnd, AreRefusedAlone, HasRunScript}
-
--- a script's job, its text, and how many lines it has
-pub record Wanted : Type 0 where
-  pub job : Option ℕ
-  pub text : List ℕ
-  pub lines : ℕ
-
-abbrev pub wanted : Script → Wanted
-wanted s = record { job = s.job; text = s.text.items; lines = s.lines }
 
 -- ---- one run of the exact machine
 
@@ -40,21 +30,21 @@ IsShownAs None lines replies xs = (xs ≡ []) × AreRefusedAlone lines replies
 IsShownAs (Some job) lines replies xs = AreOfJob job xs × AreShownToEnd job lines replies xs
 
 -- the report is of the script's job, with as many replies as there are lines
-pub record IsReport (w : Wanted) (report : Answers) : Type 0 where
+pub record IsReport (w : Group) (report : Answers) : Type 0 where
   pub whose : report.job ≡ w.job
-  pub each : length report.replies ≡ w.lines
+  pub each : length report.replies ≡ length w.lines
 
 -- each script has its report in its place, and the steps are just those that the reports show, one report's behind the other's
-abbrev pub AreShownAll : List Wanted → List Answers → List Told → Type 0
+abbrev pub AreShownAll : List Group → List Answers → List Told → Type 0
 AreShownAll [] [] xs = xs ≡ []
 AreShownAll [] (report ∷ reports) xs = ⊥
 AreShownAll (w ∷ ws) [] xs = ⊥
 AreShownAll (w ∷ ws) (report ∷ reports) xs =
-    (own rest : List Told) × (xs ≡ own ++ rest) × IsReport w report × IsShownAs w.job (lines_of_script w.text) report.replies own × AreShownAll ws reports rest
+    (own rest : List Told) × (xs ≡ own ++ rest) × IsReport w report × IsShownAs w.job w.lines report.replies own × AreShownAll ws reports rest
 
 -- there is one run of the exact machine, of which the journal is the story; in it each job's steps are just those of the load, then those
 -- that its report shows, in order
-pub record IsRun (settings : List Setting) (scripts : List Wanted) (reports : List Answers) (units : List JournalUnit) : Type 0 where
+pub record IsRun (settings : List Setting) (scripts : List Group) (reports : List Answers) (units : List JournalUnit) : Type 0 where
   pub load : List Told
   pub own : List Told
   pub steps : List Told
@@ -66,24 +56,24 @@ pub record IsRun (settings : List Setting) (scripts : List Wanted) (reports : Li
 -- ---- scripts
 
 -- each script has its report in its place
-abbrev pub AreReports : List Wanted → List Answers → Type 0
+abbrev pub AreReports : List Group → List Answers → Type 0
 AreReports [] [] = ⊤
 AreReports [] (report ∷ reports) = ⊥
 AreReports (w ∷ ws) [] = ⊥
 AreReports (w ∷ ws) (report ∷ reports) = IsReport w report × AreReports ws reports
 
 -- none of the scripts is of this job
-abbrev pub IsNoJobOf : ℕ → List Wanted → Type 0
+abbrev pub IsNoJobOf : ℕ → List Group → Type 0
 IsNoJobOf job [] = ⊤
 IsNoJobOf job (w ∷ ws) = (w.job ≢ Some job) × IsNoJobOf job ws
 
 -- no two are of one job
-abbrev pub AreApart : List Wanted → Type 0
+abbrev pub AreApart : List Group → Type 0
 AreApart [] = ⊤
 AreApart (w ∷ ws) = IfSome w.job (λ job. IsNoJobOf job ws) × AreApart ws
 
 -- each script has its report, and where no two are of one job there is such a run
-pub record AreAnswered (settings : List Setting) (scripts : List Wanted) (reports : List Answers) (units : List JournalUnit) : Type 0 where
+pub record AreAnswered (settings : List Setting) (scripts : List Group) (reports : List Answers) (units : List JournalUnit) : Type 0 where
   pub each : AreReports scripts reports
   pub run : AreApart scripts → IsRun settings scripts reports units
 
@@ -93,7 +83,7 @@ pub record IsLoadedFirst (listing : List ℕ) (settings : List Setting) (units :
   pub begins : BeginsWith settings units
 
 -- the settings of a listing were done, and are the journal's first units; and the scripts were served
-pub record AreServed (listing : List ℕ) (scripts : List Wanted) (reports : List Answers) (units : List JournalUnit) : Type 0 where
+pub record AreServed (listing : List ℕ) (scripts : List Group) (reports : List Answers) (units : List JournalUnit) : Type 0 where
   pub settings : List Setting
   pub loaded : IsLoadedFirst listing settings units
   pub answered : ∥ AreAnswered settings scripts reports units ∥₁
@@ -101,18 +91,18 @@ pub record AreServed (listing : List ℕ) (scripts : List Wanted) (reports : Lis
 -- ---- what the private functions do
 
 -- the report shows all steps of the sessions that left these books, which began when there were so many units or more
-abbrev pub HasRunAs : ℕ → Wanted → Answers → List Book → Type 0
-HasRunAs since w report books = HasRunScript since w.job w.text report.replies books
+abbrev pub HasRunAs : ℕ → Group → Answers → List Book → Type 0
+HasRunAs since w report books = HasRunScript since w.job w.lines report.replies books
 
 -- the report is of the script at this place
-pub record IsReportAt (scripts : List Wanted) (place since : ℕ) (report : Answers) (books : List Book) : Type 0 where
-  pub script : Wanted
+pub record IsReportAt (scripts : List Group) (place since : ℕ) (report : Answers) (books : List Book) : Type 0 where
+  pub script : Group
   pub at : slice_get scripts place ≡ Some script
   pub is_report : IsReport script report
   pub has_run : HasRunAs since script report books
 
 -- each script has its report in its place, which shows the steps of its sessions
-abbrev pub HaveRun : ℕ → List Wanted → List Answers → List (List Book) → Type 0
+abbrev pub HaveRun : ℕ → List Group → List Answers → List (List Book) → Type 0
 HaveRun since [] [] [] = ⊤
 HaveRun since [] [] (own ∷ owns) = ⊥
 HaveRun since [] (report ∷ reports) owns = ⊥
@@ -125,7 +115,7 @@ abbrev pub all_of : List (List Book) → List Book
 all_of owns = flat_map (λ (own : List Book). own) owns
 
 -- the reports of scripts, and the books of all
-pub record AreHanded (since : ℕ) (scripts : List Wanted) (reports : List Answers) (all : List Book) : Type 0 where
+pub record AreHanded (since : ℕ) (scripts : List Group) (reports : List Answers) (all : List Book) : Type 0 where
   pub books : List (List Book)
   pub have_run : HaveRun since scripts reports books
   pub all_is : all ≡ all_of books

@@ -18,7 +18,7 @@ use Rattle.shared_engine.specs.Receipts.{Book}
 use Rattle.shared_engine.specs.Sessions.{Held, held, knowing, halted}
 use Rattle.shared_engine.specs.Steps.{IsStanding, WasDone, step_at}
 use Rattle.shared_engine.specs.Blocks.{is_blocked, IsNoRestart}
-use Rattle.job_scripts.specs.Lines.{lines_of_script, Asks, IsRefusedAs}
+use Rattle.job_scripts.specs.Lines.{Asks, IsRefusedAs}
 use Rattle.job_scripts.specs.Timeouts.{timeout_in}
 
 -- ---- what was done
@@ -189,6 +189,6 @@ AreRefusedAlone (line ∷ lines) [] = ⊥
 AreRefusedAlone (line ∷ lines) (reply ∷ replies) = IsRefusedAlone line reply × AreRefusedAlone lines replies
 
 -- a script's replies show all steps of the sessions that left these books, which began when there were so many units or more; without a job there is no session
-abbrev pub HasRunScript : ℕ → Option ℕ → List ℕ → List Reply → List Book → Type 0
-HasRunScript since None text replies books = (books ≡ []) × AreRefusedAlone (lines_of_script text) replies
-HasRunScript since (Some job) text replies books = HasDoneSteps (AreShownToEnd job (lines_of_script text) replies) job (none_since since) (sessions_so_far (past since books) None)
+abbrev pub HasRunScript : ℕ → Option ℕ → List (List ℕ) → List Reply → List Book → Type 0
+HasRunScript since None lines replies books = (books ≡ []) × AreRefusedAlone lines replies
+HasRunScript since (Some job) lines replies books = HasDoneSteps (AreShownToEnd job lines replies) job (none_since since) (sessions_so_far (past since books) None)

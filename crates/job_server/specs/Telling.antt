@@ -1,25 +1,23 @@
 -- How a job goes on while its lines are done: its replies so far, its sessions, and the steps that they did.
 -- Read HasLocked, Serves, Advances, Begins, IsBack and HasTriedAlone.
 use Rattle.std.specs.Prelude.{◌≡◌, ◌≢◌, ◌⊎◌, ⊤, ℕ, ◌≤◌, Bool, true, false, List, [], ◌∷◌, ◌++◌, length, Option, None, Some, Result, Ok, Err}
+use Rattle.std.specs.Borrow.{Bor}
 use Rattle.std.specs.List.{All}
 use Rattle.refusal.specs.declared.Refusal.{Refusal}
 use Rattle.lock_name.specs.declared.lock.LockCommand.{LockCommand}
-use Rattle.command.specs.declared.access.DataCommand.{DataCommand}
 use Rattle.command.specs.declared.request.Command.{Command}
-use Rattle.command.specs.declared.request.Command.TheVariants.{Access, Lock as lock_command, Commit, Rollback, Restart, Halt}
+use Rattle.command.specs.declared.request.Command.TheVariants.{Lock as lock_command, Commit, Rollback, Restart, Halt}
 use Rattle.command.specs.declared.request.Reply.{Reply}
 use Rattle.command.specs.declared.request.Reply.TheVariants.{Finished, AtLevel, Restarted, Refused}
 use Rattle.journal.specs.declared.unit.Unit.{Unit as JournalUnit}
 use Rattle.serial.specs.Interleaving.{Told}
 use Rattle.serial.specs.Machine.{told_had}
 use Rattle.pin_board.specs.Slips.{IsBeginning}
-use Rattle.shared_engine.specs.Sessions.{Held, IsJournalOf, knowing, begun_anew}
+use Rattle.shared_engine.specs.Sessions.{Held, begun_anew}
 use Rattle.shared_engine.specs.Engines.{gone_back}
-use Rattle.shared_engine.specs.Blocks.{said, HasItsNames, WasBlocked, WasRefused, AreDone, HasCome}
+use Rattle.shared_engine.specs.Blocks.{said, HasItsNames, WasBlocked, WasRefused, HasCome}
 use Rattle.shared_engine.specs.declared.serial_run.SerialRun.{SerialRun}
-use Rattle.job_scripts.specs.declared.block.Block.{Block}
-use Rattle.job_scripts.specs.Blocks.{AreInFront}
-use Rattle.job_scripts.specs.Lines.{lines_of_script, Asks}
+use Rattle.job_scripts.specs.Lines.{lent_lines, Asks}
 use Rattle.job_server.specs.Steps.{SessionsSoFar, none_since, WasDoneBy, HasDoneSteps, IsReplied, IsHad, IsNoEnd, AreTries, AreShown, AreRefusedAlone}
 use Rattle.job_server.specs.declared.blocks.Tried.{Tried}
 use Rattle.job_server.specs.declared.blocks.Tried.TheVariants.{Within, Over, Back}
@@ -97,19 +95,19 @@ ServesWithin job lines rest old new = (serves : Serves job lines rest old new) �
 -- a line was done, and perhaps some of those behind it, up to this place
 pub record Advances (job : ℕ) (line : Line) (behind : Cursor) (old new : Running) : Type 0 where
   pub fewer : length behind.lines.now ≤ length line.next.lines.now
-  pub serves : Serves job (line.text.now ∷ lines_of_script line.next.lines.now) (lines_of_script behind.lines.now) old new
+  pub serves : Serves job (line.text.now ∷ lent_lines line.next.lines.now) (lent_lines behind.lines.now) old new
 
 -- and none of them has ended a transaction
 abbrev pub AdvancesWithin : ℕ → Line → Cursor → Running → Running → Type 0
 AdvancesWithin job line behind old new = (advances : Advances job line behind old new) × AreWithin job advances.serves.lines_done advances.serves.their_replies
 
--- lines of the text were done, up to this place
-pub record Reaches (job : ℕ) (text : List ℕ) (behind : Cursor) (old new : Running) : Type 0 where
+-- these lines were done, up to this place
+pub record Reaches (job : ℕ) (text : List (Bor (List ℕ))) (behind : Cursor) (old new : Running) : Type 0 where
   pub fewer : length behind.lines.now ≤ length text
-  pub serves : Serves job (lines_of_script text) (lines_of_script behind.lines.now) old new
+  pub serves : Serves job (lent_lines text) (lent_lines behind.lines.now) old new
 
 -- and none of them has ended a transaction
-abbrev pub ReachesWithin : ℕ → List ℕ → Cursor → Running → Running → Type 0
+abbrev pub ReachesWithin : ℕ → List (Bor (List ℕ)) → Cursor → Running → Running → Type 0
 ReachesWithin job text behind old new = (reaches : Reaches job text behind old new) × AreWithin job reaches.serves.lines_done reaches.serves.their_replies
 
 -- ---- blocks
@@ -117,20 +115,6 @@ ReachesWithin job text behind old new = (reaches : Reaches job text behind old n
 -- none of the commands is HALT
 abbrev pub HaveNoHalt : List Command → Type 0
 HaveNoHalt commands = All (λ (c : Command). c ≢ Halt) commands
-
--- all are data commands
-abbrev pub AreDataCommands : List Command → Type 0
-AreDataCommands commands = All (λ (c : Command). (d : DataCommand) × (c ≡ Access d)) commands
-
--- the lines of a block were done, whatever lines they stand in front of, and none has ended a transaction
-abbrev pub ServesBlock : Block → Running → Running → Type 0
-ServesBlock block old new = (job : ℕ) (lines : List (List ℕ)) → AreInFront job lines (lines_of_script block.rest.now) block.places.items block.commands.items block.musts.items → ServesWithin job lines (lines_of_script block.rest.now) old new
-
--- outside a transaction the session did data commands, or a part of them
-abbrev pub HasRunOutside : List Bool → List Command → SerialRun → Option Held → Option Held → Type 0
-HasRunOutside musts commands run None later = ⊥
-HasRunOutside musts commands run (Some old) None = ⊥
-HasRunOutside musts commands run (Some old) (Some new) = (units : List JournalUnit) × IsJournalOf units old × HasCome musts commands run units new.seen (knowing units old) new
 
 -- its transaction began anew, and it did a block in it, or a part of that
 abbrev pub HasRunAnew : List Bool → List Command → SerialRun → Option Held → Option Held → Type 0
@@ -158,16 +142,10 @@ HasWaitedFor command None later = ⊥
 HasWaitedFor command (Some old) None = ⊥
 HasWaitedFor command (Some old) (Some new) = HasWaited command old new
 
--- the session did commands in its transaction, and nothing was written
-abbrev pub HasReadAll : List Command → List Reply → Option Held → Option Held → Type 0
-HasReadAll commands replies None later = ⊥
-HasReadAll commands replies (Some old) None = ⊥
-HasReadAll commands replies (Some old) (Some new) = (units : List JournalUnit) × IsJournalOf units old × AreDone commands replies units units (knowing units old) new
-
 -- a TSTART has begun a transaction, and its lines may have been tried
 pub record Begins (job : ℕ) (line : Line) (old new : Running) : Type 0 where
   pub replied : new.replies ≡ old.replies ++ AtLevel 1 ∷ []
-  pub steps : HasDoneSteps (AreShown job (lines_of_script line.next.lines.now) (line.text.now ∷ []) (AtLevel 1 ∷ [])) job old.sessions new.sessions
+  pub steps : HasDoneSteps (AreShown job (lent_lines line.next.lines.now) (line.text.now ∷ []) (AtLevel 1 ∷ [])) job old.sessions new.sessions
 
 -- the command of this line began the transaction anew, and no reply was kept
 abbrev pub WasOvertaken : ℕ → List ℕ → Running → Running → Type 0
@@ -180,19 +158,15 @@ HasTried job line (Within behind) old new = AdvancesWithin job line behind old n
 HasTried job line (Over behind) old new = Advances job line behind old new
 HasTried job line Back old new = WasOvertaken job line.text.now old new
 
--- the text's lines were tried, and the transaction began anew
-abbrev pub IsBack : ℕ → List ℕ → Running → Running → Type 0
-IsBack job text old new = HasDoneSteps (AreTries job (lines_of_script text)) job old.sessions new.sessions
+-- these lines were tried, and the transaction began anew
+abbrev pub IsBack : ℕ → List (Bor (List ℕ)) → Running → Running → Type 0
+IsBack job text old new = HasDoneSteps (AreTries job (lent_lines text)) job old.sessions new.sessions
 
 -- and no reply was kept
-abbrev pub IsBackAt : ℕ → List ℕ → Running → Running → Type 0
+abbrev pub IsBackAt : ℕ → List (Bor (List ℕ)) → Running → Running → Type 0
 IsBackAt job text old new = IsBack job text old new × (new.replies ≡ old.replies)
 
 -- the job went back so, and perhaps the lines of a block were done from there, up to this place
-abbrev pub HasTriedAlone : ℕ → List ℕ → Option Cursor → Running → Running → Type 0
+abbrev pub HasTriedAlone : ℕ → List (Bor (List ℕ)) → Option Cursor → Running → Running → Type 0
 HasTriedAlone job text None old new = IsBackAt job text old new
 HasTriedAlone job text (Some behind) old new = (middle : Running) × IsBackAt job text old middle × Reaches job text behind middle new
-
--- the replies are those before and more
-abbrev pub GoesOnFrom : List Reply → List Reply → Type 0
-GoesOnFrom old new = (more : List Reply) × (new ≡ old ++ more)

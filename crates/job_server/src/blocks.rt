@@ -2,17 +2,19 @@
 ghost use Rattle.std.specs.Prelude.{◌≡◌, ◌≢◌, true, false, IfOk, IfSome, IfNone, OnOk};
 ghost use Rattle.command.specs.declared.request.Command.{Command};
 ghost use Rattle.command.specs.declared.request.Reply.{Reply};
-ghost use Rattle.job_scripts.specs.Lines.{Asks, IsReadFor};
+ghost use Rattle.job_scripts.specs.Lines.{Asks};
+ghost use Rattle.job_scripts.specs.Reports.{GoesOnFrom};
 ghost use Rattle.shared_engine.specs.Engines.{OnOkThat};
-ghost use Rattle.job_server.specs.Telling.{Advances, Begins, Reaches, HasTried, IsBack, GoesOnFrom};
+ghost use Rattle.job_server.specs.Holding.{IsAskedAt};
+ghost use Rattle.job_server.specs.Telling.{Advances, Begins, Reaches, HasTried, IsBack, IsBackAt};
 
 use crate::ServerFault;
 use crate::cursor::{Cursor, Line};
-use crate::running::{JobRun, is_restarted, read_within};
+use crate::gathering::Asked;
+use crate::running::{JobRun, is_restarted, note_reply};
 use crate::worker::Worker;
 use collation::Job;
 use command::{Command, Reply};
-use refusal::Refusal;
 use shared_engine::{BoardName, Gate};
 use std::sync::Wait;
 
@@ -43,6 +45,11 @@ fn is_over(reply: &Reply) -> bool
     matches!(reply, Reply::Committed | Reply::Finished)
 }
 
+// Whether a line asks for HALT, before which a block ends.
+fn is_halt(asked: &Asked<'_>) -> bool {
+    matches!(asked, Asked::One(Ok(Command::Halt)))
+}
+
 impl<'a, B: BoardName, R: Wait, G: Gate> Worker<'a, B, R, G> {
     // Does a TSTART. Answers whether it has begun a transaction.
     fn begin_block<'b>(
@@ -57,7 +64,7 @@ impl<'a, B: BoardName, R: Wait, G: Gate> Worker<'a, B, R, G> {
     {
         let reply = self.do_line(&mut run.sessions, job, line, Ok(Command::Start))?;
         let begun = is_begun(&reply);
-        run.replies.push(reply)?;
+        note_reply(&mut run.replies, reply)?;
         Ok(begun)
     }
 
@@ -78,7 +85,7 @@ impl<'a, B: BoardName, R: Wait, G: Gate> Worker<'a, B, R, G> {
             return Ok(Tried::Back);
         }
         let over = is_over(&reply);
-        run.replies.push(reply)?;
+        note_reply(&mut run.replies, reply)?;
         if over {
             return Ok(Tried::Over(line.next));
         }
@@ -97,10 +104,6 @@ impl<'a, B: BoardName, R: Wait, G: Gate> Worker<'a, B, R, G> {
         ensures { IfOk result (λ ended. HasTried job line.entry ended run.old run.new) }
     {
         match command {
-            Command::Access(first) => {
-                let behind = self.serve_access(run, job, first, line)?;
-                Ok(Tried::Within(behind))
-            }
             Command::Commit => self.try_end(run, job, line, Command::Commit),
             Command::Rollback => self.try_end(run, job, line, Command::Rollback),
             Command::Halt => self.try_end(run, job, line, Command::Halt),
@@ -111,20 +114,24 @@ impl<'a, B: BoardName, R: Wait, G: Gate> Worker<'a, B, R, G> {
         }
     }
 
-    // Does a line of a block.
+    // Does a line of a block, or those in the hold.
     fn try_line<'b>(
         &mut self,
         run: &mut JobRun<B>,
         job: Job,
         line: Line<'b>,
-        asked: Result<Command, Refusal>,
+        asked: Asked<'b>,
     ) -> Result<Tried<'b>, ServerFault>
-        requires { IsReadFor job line.text.now asked }
+        requires { IsAskedAt job line asked self.old.hold }
         ensures { IfOk result (λ ended. HasTried job line.entry ended run.old run.new) }
     {
         match asked {
-            Ok(command) => self.try_command(run, job, line, command),
-            Err(refusal) => {
+            Asked::Many(front) => {
+                let behind = self.serve_hold(run, job, line, front)?;
+                Ok(Tried::Within(behind))
+            }
+            Asked::One(Ok(command)) => self.try_command(run, job, line, command),
+            Asked::One(Err(refusal)) => {
                 let behind = self.pass_line(run, job, line, Err(refusal))?;
                 Ok(Tried::Within(behind))
             }
@@ -147,9 +154,11 @@ impl<'a, B: BoardName, R: Wait, G: Gate> Worker<'a, B, R, G> {
         let mut place = begin;
         'lines: while let Some(line) = place.next() {
             self.check_stop()?;
-            let Some(asked) = read_within(self.alloc, job, line.text, &mut run.drafts) else {
+            let asked = self.read(run, job, line)?;
+            if is_halt(&asked) {
+                drop(asked);
                 return Ok(Some(place));
-            };
+            }
             match self.try_line(run, job, line, asked)? {
                 Tried::Within(behind) => place = behind,
                 Tried::Over(behind) => return Ok(Some(behind)),
@@ -157,6 +166,28 @@ impl<'a, B: BoardName, R: Wait, G: Gate> Worker<'a, B, R, G> {
             }
         }
         Ok(Some(place))
+    }
+
+    // The same, where no reply is kept of lines that were overtaken.
+    fn try_once<'b>(
+        &mut self,
+        run: &mut JobRun<B>,
+        job: Job,
+        begin: Cursor<'b>,
+    ) -> Result<Option<Cursor<'b>>, ServerFault>
+        ensures over { IfOk result (λ ended. IfSome ended (λ behind. Reaches job begin.entry.lines.now behind run.old run.new)) }
+        ensures again { IfOk result (λ ended. IfNone ended (IsBackAt job begin.entry.lines.now run.old run.new)) }
+    {
+        let mark = run.mark();
+        match self.try_block(run, job, begin)? {
+            Some(behind) => Ok(Some(behind)),
+            None => {
+                if run.back_to(mark) {
+                    return Ok(None);
+                }
+                Err(ServerFault::Missing)
+            }
+        }
     }
 
     /// Does a block. Answers the place behind it.
@@ -172,12 +203,10 @@ impl<'a, B: BoardName, R: Wait, G: Gate> Worker<'a, B, R, G> {
         if !self.begin_block(run, job, line)? {
             return Ok(line.next);
         }
-        let kept = run.replies.len();
         'tries: for _ in 0..MOST_RESTARTS {
-            if let Some(place) = self.try_block(run, job, line.next)? {
+            if let Some(place) = self.try_once(run, job, line.next)? {
                 return Ok(place);
             }
-            run.replies.truncate(kept);
         }
         'alone: for _ in self.calls.rt.forever() {
             self.check_stop()?;

@@ -1,13 +1,13 @@
 //! A place in a job's lines.
 ghost use Rattle.std.specs.Prelude.{◌≡◌, ◌<◌, ◌∷◌, [], length, IfSome, IfNone};
-ghost use Rattle.job_scripts.specs.Lines.{lines_of_script};
+ghost use Rattle.job_scripts.specs.Lines.{lent_lines};
 
 use job_scripts::next_line;
 
 /// The lines of a job that are still to be done, and the number of the first of them within the job, from 1.
 #[derive(Clone, Copy, Debug)]
 pub(crate) struct Cursor<'a> {
-    pub(crate) lines: &'a [u8],
+    pub(crate) lines: &'a [&'a [u8]],
     pub(crate) number: u64,
 }
 
@@ -21,7 +21,7 @@ pub(crate) struct Line<'a> {
 
 impl<'a> Cursor<'a> {
     /// Before the first line.
-    pub(crate) fn new(lines: &'a [u8]) -> Cursor<'a>
+    pub(crate) fn new(lines: &'a [&'a [u8]]) -> Cursor<'a>
         ensures { result.lines.now ≡ lines.now }
     {
         Cursor { lines, number: 1 }
@@ -30,8 +30,8 @@ impl<'a> Cursor<'a> {
     /// The next line; none behind the last.
     pub(crate) fn next(&self) -> Option<Line<'a>>
         ensures fewer { IfSome result (λ line. length line.next.lines.now < length self.now.lines.now) }
-        ensures first { IfSome result (λ line. lines_of_script self.now.lines.now ≡ line.text.now ∷ lines_of_script line.next.lines.now) }
-        ensures none { IfNone result (lines_of_script self.now.lines.now ≡ []) }
+        ensures first { IfSome result (λ line. lent_lines self.now.lines.now ≡ line.text.now ∷ lent_lines line.next.lines.now) }
+        ensures none { IfNone result (lent_lines self.now.lines.now ≡ []) }
     {
         let (text, lines) = next_line(self.lines)?;
         Some(Line {

@@ -1,40 +1,42 @@
 //! Lines of a job that are done under one hold of the engine's lock. The gate isn't told.
-ghost use Rattle.std.specs.Prelude.{◌≡◌, ◌++◌, List, IfOk, OnOk};
+ghost use Rattle.std.specs.Prelude.{◌≡◌, ◌++◌, ◌∷◌, [], List, Option, Some, true, IfOk, OnOk};
+ghost use Rattle.std.specs.List.{All};
+ghost use Rattle.refusal.specs.declared.Refusal.{Refusal};
 ghost use Rattle.command.specs.declared.request.Command.{Command};
+ghost use Rattle.command.specs.declared.request.Reply.{Reply};
 ghost use Rattle.job_scripts.specs.Blocks.{in_place};
-ghost use Rattle.job_scripts.specs.Lines.{lines_of_script, Asks};
+ghost use Rattle.job_scripts.specs.Lines.{lent_lines};
+ghost use Rattle.shared_engine.specs.Holds.{accesses, reply_told, IsSet};
+ghost use Rattle.job_server.specs.Holding.{IsGathered, IsAskedAt, HasHeld};
 ghost use Rattle.job_server.specs.Steps.{OneAsks};
-ghost use Rattle.job_server.specs.Telling.{AdvancesWithin, HaveNoHalt, AreDataCommands, ServesBlock, HasRunOutside, BeganAnew, HasRunAnew, HasReadAll, HasWaited, HasWaitedFor, HasTriedAlone};
+ghost use Rattle.job_server.specs.Telling.{AdvancesWithin, HaveNoHalt, BeganAnew, HasRunAnew, HasWaited, HasWaitedFor, HasTriedAlone};
 
 use crate::ServerFault;
 use crate::cursor::{Cursor, Line};
+use crate::gathering::{Asked, Front, Way, gather};
+use crate::job_run::Calls;
 use crate::running::JobRun;
 use crate::worker::{Worker, writes_in};
 use collation::Job;
-use command::{Command, DataCommand, Reply};
-use job_scripts::{Block, block_of, data_block, push_in_place};
+use command::{Command, Reply};
+use job_scripts::{Block, Replies, block_of, command_for, push_in_place, request_for};
 use lock_name::LockCommand;
 use refusal::Refusal;
-use script::Drafts;
-use shared_engine::{BoardName, Gate, SerialRun, Session};
-use std::alloc::Global;
+use script::{Drafts, Sentence};
+use shared_engine::{BoardName, Gate, Hold, SerialRun, Served as ToldLines, Session, Told, Turn};
+use std::alloc::{AllocError, Global};
 use std::sync::Wait;
-
-// How many data commands are done under one hold of the engine's lock, at most: alone, and shared with other readers.
-const WRITES_PER_HOLD: usize = 64;
-
-const READS_PER_HOLD: usize = 16;
 
 // The LOCK at this place of the block at the front of a job's lines.
 #[tactic(auto, using(crate::proofs::Waiting::lock_found))]
 fn lock_at(
     alloc: Global,
     job: Job,
-    lines: &[u8],
+    lines: &[&[u8]],
     place: usize,
     drafts: &mut Drafts,
 ) -> Result<LockCommand, ServerFault>
-    ensures { IfOk result (λ command. OneAsks job (lines_of_script lines.now) (Command.Lock command)) }
+    ensures { IfOk result (λ command. OneAsks job (lent_lines lines.now) (Command.Lock command)) }
 {
     let mut block = block_of(alloc, job, lines, drafts)?;
     if place >= block.commands.len() {
@@ -48,14 +50,14 @@ fn lock_at(
 
 // Takes the replies to a block in. Answers the place behind it.
 fn note_block<'b>(
-    replies: &mut Vec<Reply>,
+    replies: &mut Replies,
     number: u64,
     places: Vec<Option<Refusal>>,
     served: Vec<Reply>,
-    rest: &'b [u8],
+    rest: &'b [&'b [u8]],
 ) -> Result<Cursor<'b>, ServerFault>
     ensures rest { IfOk result (λ behind. behind.lines.now ≡ rest.now) }
-    ensures replies { OnOk result (replies.new.items ≡ replies.old.items ++ in_place places.items served.items) }
+    ensures replies { OnOk result (replies.new.replies ≡ replies.old.replies ++ in_place places.items served.items) }
 {
     push_in_place(places.as_slice(), served, replies)?;
     let count = places.len() as u64;
@@ -65,60 +67,149 @@ fn note_block<'b>(
     })
 }
 
-impl<'a, B: BoardName, R: Wait, G: Gate> Worker<'a, B, R, G> {
-    // Whether a data command may be done under one hold of the engine's lock with those right behind it: no line is
-    // watched, and it takes the lock, as SET and KILL in a transaction don't.
-    fn may_go_on(&self, run: &JobRun<B>, command: &DataCommand) -> bool {
-        let takes_lock = match command {
-            DataCommand::Set(..) | DataCommand::Kill(..) => !run.is_open(),
-            DataCommand::Merge(..) | DataCommand::Increment(..) | DataCommand::Look(_) => true,
-        };
-        takes_lock && !self.calls.gate.watches_lines()
+// Takes in what a line was told.
+fn note_told(told: Told<'_>, replies: &mut Replies) -> Result<(), AllocError>
+    ensures { OnOk result (replies.new.replies ≡ replies.old.replies ++ reply_told told.entry ∷ []) }
+{
+    match told {
+        Told::Done => replies.push_done(),
+        Told::Value(value) => replies.push_got(value),
+        Told::Answer(answer) => replies.push_answer(answer),
+        Told::Refused(refusal) => replies.push_refused(refusal),
     }
+}
 
-    // Does a block of a session which has no transaction.
-    fn run_outside(
-        &mut self,
+// Takes in the reply in a line's place: its refusal, or what the next was told.
+fn note_place(
+    place: &Option<Refusal>,
+    served: &mut ToldLines<'_>,
+    replies: &mut Replies,
+) -> Result<(), AllocError>
+    ensures { OnOk result ((reply : Reply) × ((replies.new.replies ≡ replies.old.replies ++ reply ∷ []) × ((places : List (Option Refusal)) → in_place (place.now ∷ places) served.old ≡ reply ∷ in_place places served.new))) }
+{
+    match place {
+        Some(refusal) => replies.push_refused(*refusal),
+        None => match served.next() {
+            Some(told) => note_told(told, replies),
+            None => Err(AllocError),
+        },
+    }
+}
+
+// Takes in the replies to the lines of a hold.
+fn note_hold(hold: &Hold, replies: &mut Replies) -> Result<(), AllocError>
+    ensures { OnOk result (replies.new.replies ≡ replies.old.replies ++ in_place hold.now.places hold.now.served) }
+{
+    let mut served = hold.served();
+    'places: for place in hold.places() {
+        note_place(place, &mut served, replies)?;
+    }
+    Ok(())
+}
+
+impl<'a, B: BoardName, R: Wait, G: Gate> Calls<'a, B, R, G> {
+    // Does the lines of a hold in a session, in its transaction or without one.
+    fn hold_in(
+        &self,
         session: &mut Session<B>,
-        commands: Vec<Command>,
-        musts: &[bool],
-    ) -> Result<SerialRun, ServerFault>
-        requires { AreDataCommands commands.items }
-        ensures { IfOk result (λ ran. HasRunOutside musts.now commands.items ran (Some session.old) (Some session.new)) }
+        way: Way,
+        hold: &mut Hold,
+        turn: &mut Turn,
+    ) -> Result<(), ServerFault>
+        requires none { hold.old.served ≡ [] }
+        requires sets { way ≡ Way.Sets → All IsSet hold.old.commands }
+        ensures held { OnOk result (HasHeld (accesses hold.old.commands) hold.new.served (Some session.old) (Some session.new)) }
+        ensures places { OnOk result (hold.new.places ≡ hold.old.places) }
     {
-        if session.tlevel() > 0 {
-            drop(commands);
-            return Err(ServerFault::Missing);
+        let is_open = session.tlevel() > 0;
+        match way {
+            Way::Lone if !is_open => self.engine.hold_lone(self.rt, session, hold, turn),
+            Way::Read if is_open => self.engine.hold_read(self.rt, session, hold),
+            Way::Sets if is_open => session.hold_sets(hold),
+            Way::Lone | Way::Read | Way::Sets => return Err(ServerFault::Missing),
         }
-        Ok(
-            self.calls.engine.run_serial(
-                self.calls.rt,
-                self.alloc,
-                session,
-                commands,
-                musts,
-                &mut self.turns.next,
-            )?,
-        )
+        Ok(())
     }
 
-    // Does a block of a job's session.
-    fn run_block(
-        &mut self,
+    // The same in a job's session.
+    fn hold(
+        &self,
         session: &mut Option<Session<B>>,
-        commands: Vec<Command>,
-        musts: &[bool],
-    ) -> Result<SerialRun, ServerFault>
-        requires { AreDataCommands commands.items }
-        ensures { IfOk result (λ ran. HasRunOutside musts.now commands.items ran session.old session.new) }
+        way: Way,
+        hold: &mut Hold,
+        turn: &mut Turn,
+    ) -> Result<(), ServerFault>
+        requires none { hold.old.served ≡ [] }
+        requires sets { way ≡ Way.Sets → All IsSet hold.old.commands }
+        ensures held { OnOk result (HasHeld (accesses hold.old.commands) hold.new.served session.old session.new) }
+        ensures places { OnOk result (hold.new.places ≡ hold.old.places) }
     {
         match session {
-            Some(session) => self.run_outside(session, commands, musts),
-            None => {
-                drop(commands);
-                Err(ServerFault::Missing)
-            }
+            Some(session) => self.hold_in(session, way, hold, turn),
+            None => Err(ServerFault::Missing),
         }
+    }
+}
+
+impl<'a, B: BoardName, R: Wait, G: Gate> Worker<'a, B, R, G> {
+    /// Reads a line, and those behind it that are done in one hold with it, where no line is watched.
+    pub(crate) fn read<'b>(
+        &mut self,
+        run: &mut JobRun<B>,
+        job: Job,
+        line: Line<'b>,
+    ) -> Result<Asked<'b>, ServerFault>
+        ensures asked { IfOk result (λ asked. IsAskedAt job line.entry asked self.new.hold) }
+        ensures same { run.new ≡ run.old }
+    {
+        match request_for(self.alloc, job, line.text, &mut run.drafts) {
+            Ok(Sentence::Access(first)) if !self.calls.gate.watches_lines() => {
+                let way = Way::of(run.is_open(), first);
+                let hold = &mut self.hold;
+                let front = gather(self.alloc, job, line, first, way, &mut run.drafts, hold)?;
+                Ok(Asked::Many(front))
+            }
+            Ok(sentence) => Ok(Asked::One(command_for(self.alloc, job, sentence, &mut run.drafts))),
+            Err(refusal) => Ok(Asked::One(Err(refusal))),
+        }
+    }
+
+    // Does the lines of the hold, where a session is there.
+    fn serve_held<'b>(
+        &mut self,
+        run: &mut JobRun<B>,
+        job: Job,
+        line: Line<'b>,
+        front: Front<'b>,
+    ) -> Result<Cursor<'b>, ServerFault>
+        requires { IsGathered job line front self.old.hold }
+        ensures { IfOk result (λ behind. AdvancesWithin job line.entry behind run.old run.new) }
+    {
+        let turn = &mut self.turns.next;
+        self.calls
+            .hold(&mut run.sessions.open, front.way, &mut self.hold, turn)?;
+        note_hold(&self.hold, &mut run.replies)?;
+        let count = self.hold.len() as u64;
+        Ok(Cursor {
+            lines: front.rest,
+            number: line.number.saturating_add(count),
+        })
+    }
+
+    /// Does the lines of the hold, so that nobody comes between. The gate isn't told. Answers the place behind them.
+    pub(crate) fn serve_hold<'b>(
+        &mut self,
+        run: &mut JobRun<B>,
+        job: Job,
+        line: Line<'b>,
+        front: Front<'b>,
+    ) -> Result<Cursor<'b>, ServerFault>
+        requires { IsGathered job line front self.old.hold }
+        ensures { IfOk result (λ behind. AdvancesWithin job line.entry behind run.old run.new) }
+    {
+        self.turns.note_writes(front.writes);
+        self.begin(job, &mut run.sessions)?;
+        self.serve_held(run, job, line, front)
     }
 
     // Begins a session's transaction anew, and does a block in it, so that nobody comes between.
@@ -164,95 +255,6 @@ impl<'a, B: BoardName, R: Wait, G: Gate> Worker<'a, B, R, G> {
                 drop(commands);
                 Err(ServerFault::Missing)
             }
-        }
-    }
-
-    // Does data commands of a session in its transaction.
-    fn read_inside(
-        &self,
-        session: &mut Session<B>,
-        commands: Vec<Command>,
-    ) -> Result<Vec<Reply>, ServerFault>
-        requires { AreDataCommands commands.items }
-        ensures { IfOk result (λ served. HasReadAll commands.items served.items (Some session.old) (Some session.new)) }
-    {
-        if session.tlevel() == 0 {
-            drop(commands);
-            return Err(ServerFault::Missing);
-        }
-        Ok(
-            self.calls
-                .engine
-                .read_all(self.calls.rt, self.alloc, session, commands)?,
-        )
-    }
-
-    // Does data commands of a job's session in its transaction.
-    fn read_block(
-        &self,
-        session: &mut Option<Session<B>>,
-        commands: Vec<Command>,
-    ) -> Result<Vec<Reply>, ServerFault>
-        requires { AreDataCommands commands.items }
-        ensures { IfOk result (λ served. HasReadAll commands.items served.items session.old session.new) }
-    {
-        match session {
-            Some(session) => self.read_inside(session, commands),
-            None => {
-                drop(commands);
-                Err(ServerFault::Missing)
-            }
-        }
-    }
-
-    // Does data commands outside a transaction, so that nobody comes between. Answers the place behind them.
-    fn serve_at_once<'b>(
-        &mut self,
-        run: &mut JobRun<B>,
-        number: u64,
-        block: Block<'b>,
-    ) -> Result<Cursor<'b>, ServerFault>
-        requires { AreDataCommands block.commands.items }
-        ensures rest { IfOk result (λ behind. behind.lines.now ≡ block.entry.rest.now) }
-        ensures served { OnOk result (ServesBlock block.entry run.old run.new) }
-    {
-        let Block {
-            commands,
-            places,
-            musts,
-            rest,
-        } = block;
-        self.turns.note_writes(writes_in(&commands));
-        match self.run_block(&mut run.sessions.open, commands, &musts) {
-            Ok(SerialRun::Done(served)) => {
-                note_block(&mut run.replies, number, places, served, rest)
-            }
-            Ok(SerialRun::Blocked(_)) => Err(ServerFault::Missing),
-            Err(fault) => Err(fault),
-        }
-    }
-
-    // Does data commands in a transaction, under a hold that readers share. Answers the place behind them.
-    fn read_at_once<'b>(
-        &mut self,
-        run: &mut JobRun<B>,
-        number: u64,
-        block: Block<'b>,
-    ) -> Result<Cursor<'b>, ServerFault>
-        requires { AreDataCommands block.commands.items }
-        ensures rest { IfOk result (λ behind. behind.lines.now ≡ block.entry.rest.now) }
-        ensures served { OnOk result (ServesBlock block.entry run.old run.new) }
-    {
-        let Block {
-            commands,
-            places,
-            musts: _,
-            rest,
-        } = block;
-        self.turns.note_writes(writes_in(&commands));
-        match self.read_block(&mut run.sessions.open, commands) {
-            Ok(served) => note_block(&mut run.replies, number, places, served, rest),
-            Err(fault) => Err(fault),
         }
     }
 
@@ -330,74 +332,5 @@ impl<'a, B: BoardName, R: Wait, G: Gate> Worker<'a, B, R, G> {
             }
             Err(fault) => Err(fault),
         }
-    }
-
-    // Does a data command of a session that is there, and those right behind it.
-    #[tactic(auto, using(crate::proofs::AtOnce::block_advances))]
-    fn serve_run<'b>(
-        &mut self,
-        run: &mut JobRun<B>,
-        job: Job,
-        first: DataCommand,
-        line: Line<'b>,
-    ) -> Result<Cursor<'b>, ServerFault>
-        requires { Asks job line.text.now (Command.Access first) }
-        ensures { IfOk result (λ behind. AdvancesWithin job line.entry behind run.old run.new) }
-    {
-        let most = if run.is_open() {
-            READS_PER_HOLD
-        } else {
-            WRITES_PER_HOLD
-        };
-        let block = data_block(
-            self.alloc,
-            job,
-            first,
-            line.next.lines,
-            most,
-            &mut run.drafts,
-        )?;
-        if run.is_open() {
-            self.read_at_once(run, line.number, block)
-        } else {
-            self.serve_at_once(run, line.number, block)
-        }
-    }
-
-    // Does a data command, and those right behind it.
-    fn serve_data<'b>(
-        &mut self,
-        run: &mut JobRun<B>,
-        job: Job,
-        first: DataCommand,
-        line: Line<'b>,
-    ) -> Result<Cursor<'b>, ServerFault>
-        requires { Asks job line.text.now (Command.Access first) }
-        ensures { IfOk result (λ behind. AdvancesWithin job line.entry behind run.old run.new) }
-    {
-        match self.begin(job, &mut run.sessions) {
-            Ok(()) => self.serve_run(run, job, first, line),
-            Err(fault) => {
-                drop(first);
-                Err(fault)
-            }
-        }
-    }
-
-    /// Does a data command, perhaps with those right behind it. Answers the place behind them.
-    pub(crate) fn serve_access<'b>(
-        &mut self,
-        run: &mut JobRun<B>,
-        job: Job,
-        first: DataCommand,
-        line: Line<'b>,
-    ) -> Result<Cursor<'b>, ServerFault>
-        requires { Asks job line.text.now (Command.Access first) }
-        ensures { IfOk result (λ behind. AdvancesWithin job line.entry behind run.old run.new) }
-    {
-        if self.may_go_on(run, &first) {
-            return self.serve_data(run, job, first, line);
-        }
-        self.pass_line(run, job, line, Ok(Command::Access(first)))
     }
 }

@@ -21,7 +21,8 @@
 //! | `replies.rt` | what calls of the engine are replied |
 //! | `job_run.rt` | a command of a job, by the calls of its session |
 //! | `running.rt` | a job as it is run, and one line of it |
-//! | `holding.rt` | lines that are done under one hold of the engine's lock |
+//! | `gathering.rt` | lines that are gathered for one hold of the engine's lock |
+//! | `holding.rt` | lines that are done under one hold |
 //! | `blocks.rt` | blocks, as often as they are overtaken |
 //! | `turns.rt` | when the collector looks, and at how many keys |
 //! | `in_turn.rt` | whether sessions were over when others began |
@@ -40,6 +41,7 @@ pub use serving::{Served, serve};
 mod blocks;
 mod cursor;
 mod fault;
+mod gathering;
 mod holding;
 mod in_turn;
 mod job_run;

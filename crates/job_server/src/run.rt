@@ -92,7 +92,6 @@ pub fn serve_text<R: Threads + Wait + Sync, L: LoadLog, G: Gate + Sync>(
     ensures unloaded { IfErr result (IsJobsFault listing.now) }
 {
     let scripts = scripts_of(alloc, &text)?;
-    drop(text);
     let served = serve(rt, alloc, listing, log, scripts, workers, gate)?;
     let _journal = served.journal();
     Ok(served)

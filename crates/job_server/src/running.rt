@@ -1,8 +1,10 @@
 //! A job as it is run, and one line of it.
-ghost use Rattle.std.specs.Prelude.{◌≡◌, ◌≢◌, ◌<◌, ℕ, None, true, false, length, vec_capacity, IfOk, IfSome, OnOk};
+ghost use Rattle.std.specs.Prelude.{◌≡◌, ◌≢◌, ◌<◌, ◌++◌, ◌∷◌, [], ℕ, None, true, false, length, vec_capacity, IfOk, IfSome, OnOk};
 ghost use Rattle.command.specs.declared.request.Command.{Command};
 ghost use Rattle.command.specs.declared.request.Reply.{Reply};
 ghost use Rattle.job_scripts.specs.Lines.{IsReadFor};
+ghost use Rattle.job_scripts.specs.Timeouts.{timeout_in};
+ghost use Rattle.job_scripts.specs.Reports.{GoesOnFrom};
 ghost use Rattle.shared_engine.specs.Blocks.{is_blocked};
 ghost use Rattle.job_server.specs.Steps.{Past, past, sessions_so_far, IsBegunBehind, HasDoneSteps, IsNoStep, IsReplied, IsHad};
 ghost use Rattle.job_server.specs.Telling.{IsDoneAs, HasStopped, IsNoCommit, EndsNone, Advances, AdvancesWithin, not_begun};
@@ -13,7 +15,7 @@ use crate::in_turn::are_before;
 use crate::worker::{Worker, writes_of};
 use collation::Job;
 use command::{Command, Reply};
-use job_scripts::{read_for, timeout_of};
+use job_scripts::{Replies, RepliesMark, timeout_of};
 use refusal::Refusal;
 use script::Drafts;
 use shared_engine::{BoardName, Gate, Pass, Session};
@@ -56,7 +58,7 @@ impl<B: BoardName> Sessions<B> {
 #[derive(Drop)]
 pub(crate) struct JobRun<B: BoardName> {
     pub(crate) sessions: Sessions<B>,
-    pub(crate) replies: Vec<Reply>,
+    pub(crate) replies: Replies,
     pub(crate) drafts: Drafts,
 }
 
@@ -68,23 +70,24 @@ impl<B: BoardName> Model for JobRun<B> {
 
     ghost coded = { running_code };
 
-    ghost view = { λ r. running r.replies.items r.sessions };
+    ghost view = { λ r. running r.replies.replies r.sessions };
 }
 
 impl<B: BoardName> JobRun<B> {
     /// Before the first line, where there are so many units.
-    pub(crate) fn new(alloc: Global, since: u64) -> JobRun<B>
-        ensures { result ≡ not_begun since }
+    pub(crate) fn new(alloc: Global, job: Job, since: u64) -> Result<JobRun<B>, AllocError>
+        ensures { IfOk result (λ run. run ≡ not_begun since) }
     {
-        JobRun {
+        let replies = Replies::new(alloc, Some(job))?;
+        Ok(JobRun {
             sessions: Sessions {
                 open: None,
                 passes: Vec::new(alloc),
                 since,
             },
-            replies: Vec::new(alloc),
+            replies,
             drafts: Drafts::new(alloc),
-        }
+        })
     }
 
     /// Whether a transaction is open.
@@ -94,20 +97,41 @@ impl<B: BoardName> JobRun<B> {
             None => false,
         }
     }
+
+    /// How far the replies go now.
+    pub(crate) fn mark(&self) -> RepliesMark
+        ensures { result.replies ≡ self.now.replies }
+    {
+        self.replies.mark()
+    }
+
+    /// Goes back to the replies of the mark. Answers whether the mark is of replies to the same job: where it isn't they
+    /// stay.
+    pub(crate) fn back_to(&mut self, mark: RepliesMark) -> bool
+        requires { GoesOnFrom mark.replies self.old.replies }
+        ensures back { result ≡ true → self.new.replies ≡ mark.replies }
+        ensures sessions { self.new.sessions ≡ self.old.sessions }
+    {
+        self.replies.back_to(mark)
+    }
 }
 
-/// What a line asks of a job in a block, but for HALT, before which a block ends.
-pub(crate) fn read_within(
-    alloc: Global,
-    job: Job,
-    line: &[u8],
-    drafts: &mut Drafts,
-) -> Option<Result<Command, Refusal>>
-    ensures { IfSome result (λ asked. IsReadFor job line.now asked) }
+/// Takes a reply in. Refused as `Replies::push`.
+pub(crate) fn note_reply(replies: &mut Replies, reply: Reply) -> Result<(), AllocError>
+    ensures { OnOk result (replies.new.replies ≡ replies.old.replies ++ reply ∷ []) }
 {
-    match read_for(alloc, job, line, drafts) {
-        Ok(Command::Halt) => None,
-        asked => Some(asked),
+    let pushed = replies.push(&reply);
+    drop(reply);
+    pushed
+}
+
+// A LOCK's timeout; none of another command, of which no line has one.
+fn millis_of(command: &Command, line: &[u8]) -> Option<u64>
+    ensures { timeout_in line.now ≡ None → result ≡ None }
+{
+    match command {
+        Command::Lock(_) => timeout_of(line),
+        _ => None,
     }
 }
 
@@ -254,10 +278,11 @@ impl<'a, B: BoardName, R: Wait, G: Gate> Worker<'a, B, R, G> {
         ensures had { IfOk result (λ reply. IsHad line.now reply) }
     {
         match session {
-            Some(session) => Ok(
-                self.calls
-                    .reply_to(session, command, timeout_of(line), &mut self.turns.next),
-            ),
+            Some(session) => {
+                let millis = millis_of(&command, line);
+                let turn = &mut self.turns.next;
+                Ok(self.calls.reply_to(session, command, millis, turn))
+            }
             None => {
                 drop(command);
                 Err(ServerFault::Missing)
@@ -357,7 +382,7 @@ impl<'a, B: BoardName, R: Wait, G: Gate> Worker<'a, B, R, G> {
         ensures within { EndsNone asked → IfOk result (λ behind. AdvancesWithin job line.entry behind run.old run.new) }
     {
         let reply = self.do_line(&mut run.sessions, job, line, asked)?;
-        run.replies.push(reply)?;
+        note_reply(&mut run.replies, reply)?;
         Ok(line.next)
     }
 }

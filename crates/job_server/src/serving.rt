@@ -3,7 +3,8 @@ ghost use Rattle.std.specs.Prelude.{◌≡◌, ◌+◌, ◌^◌, ◌<◌, List, 
 ghost use Rattle.journal.specs.declared.unit.Unit.{Unit as JournalUnit};
 ghost use Rattle.loading.specs.Settings.{Setting};
 ghost use Rattle.job_server.specs.Loads.{load_books, BeginsWith, HasRunLoad, IsUnservedBy};
-ghost use Rattle.job_server.specs.Served.{wanted, AreHanded, AreAnswered, AreServed};
+ghost use Rattle.job_scripts.specs.Groups.{shown};
+ghost use Rattle.job_server.specs.Served.{AreHanded, AreAnswered, AreServed};
 
 use crate::in_turn::end_of;
 use crate::job_run::Calls;
@@ -16,7 +17,7 @@ use job_scripts::{Report, Script};
 use loading::LoadLog;
 use pin_board::{Blank, SEATS};
 use shared_engine::{
-    BoardName, Closed, Gate, Pass, Shared, histories_end, histories_go_on, steps_are_exact,
+    BoardName, Closed, Gate, Hold, Pass, Shared, histories_end, histories_go_on, steps_are_exact,
 };
 use std::alloc::Global;
 use std::marker::{Brand, PhantomData};
@@ -142,12 +143,12 @@ fn slots_of<B: BoardName + Batch>(
 }
 
 // Queues each script.
-fn queue<B: Batch, R: Wait>(
+fn queue<'t, B: Batch, R: Wait>(
     rt: &R,
-    scripts: Vec<Script>,
-    tasks: &Sender<Task<B>, Global>,
+    scripts: Vec<Script<'t>>,
+    tasks: &Sender<Task<'t, B>, Global>,
 ) -> Result<(), ServerFault>
-    requires { map wanted scripts.items ≡ B.scripts }
+    requires { map shown scripts.items ≡ B.scripts }
 {
     for (place, script) in scripts.into_iter().enumerate() {
         let task = Task {
@@ -178,11 +179,11 @@ fn gather<B: BoardName + Batch, R: Wait, G: Gate>(
 }
 
 // Starts a worker.
-fn start<'s, E, B: BoardName + Batch + Send + Sync, R: Wait + Sync, G: Gate + Sync>(
+fn start<'s, 't: 's, E, B: BoardName + Batch + Send + Sync, R: Wait + Sync, G: Gate + Sync>(
     scope: &Scope<'s, E>,
     alloc: Global,
     calls: Calls<'s, B, R, G>,
-    tasks: Receiver<Task<B>, Global>,
+    tasks: Receiver<Task<'t, B>, Global>,
     reports: Sender<Done<B>, Global>,
 ) -> Result<(), ServerFault> {
     let started = scope.spawn(move || {
@@ -190,6 +191,7 @@ fn start<'s, E, B: BoardName + Batch + Send + Sync, R: Wait + Sync, G: Gate + Sy
             alloc,
             calls,
             turns: Turns::new(),
+            hold: Hold::new(alloc),
         };
         worker.work(tasks, reports)
     });
@@ -205,11 +207,11 @@ fn share_out<B: BoardName + Batch + Send + Sync, R: Threads + Wait + Sync, G: Ga
     alloc: Global,
     engine: &Shared<B>,
     since: u64,
-    scripts: Vec<Script>,
+    scripts: Vec<Script<'_>>,
     workers: usize,
     gate: &G,
 ) -> Result<Gathered<B>, ServerFault>
-    requires { map wanted scripts.items ≡ B.scripts }
+    requires { map shown scripts.items ≡ B.scripts }
 {
     let count = scripts.len();
     let mut gathered = Gathered {
@@ -225,7 +227,7 @@ fn share_out<B: BoardName + Batch + Send + Sync, R: Threads + Wait + Sync, G: Ga
         thread::scope_env(),
         rt,
         move |scope| -> Result<Gathered<B>, ServerFault>
-            requires { map wanted scripts.items ≡ B.scripts }
+            requires { map shown scripts.items ≡ B.scripts }
         {
             for _ in 0..workers {
                 let tasks = task_receiver.clone()?;
@@ -260,13 +262,13 @@ fn serve_on<B: BoardName + Batch + Send + Sync, R: Threads + Wait + Sync, G: Gat
     alloc: Global,
     engine: Shared<B>,
     loaded: Vec<Pass<B>>,
-    scripts: Vec<Script>,
+    scripts: Vec<Script<'_>>,
     workers: usize,
     gate: &G,
 ) -> Result<Served, ServerFault>
-    requires { map wanted scripts.items ≡ B.scripts }
+    requires { map shown scripts.items ≡ B.scripts }
     ensures begins { IfOk result (λ served. (ended : List JournalUnit) (settings : List Setting) → loaded.items ≡ load_books ended settings → BeginsWith settings served.closed.core.units) }
-    ensures answered { IfOk result (λ served. (ended : List JournalUnit) (settings : List Setting) → loaded.items ≡ load_books ended settings → HasRunLoad settings loaded.items → ∥ AreAnswered settings (map wanted scripts.items) served.reports.items served.closed.core.units ∥₁) }
+    ensures answered { IfOk result (λ served. (ended : List JournalUnit) (settings : List Setting) → loaded.items ≡ load_books ended settings → HasRunLoad settings loaded.items → ∥ AreAnswered settings (map shown scripts.entry.items) served.reports.items served.closed.core.units ∥₁) }
 {
     let count = scripts.len();
     let since = end_of(loaded.as_slice())?;
@@ -309,13 +311,13 @@ fn load_and_serve<
     blank: Blank,
     listing: &[u8],
     log: &mut L,
-    scripts: Vec<Script>,
+    scripts: Vec<Script<'_>>,
     workers: usize,
     gate: &G,
 ) -> Result<Served, Unserved>
     requires board { (blank.seat.table_id ≡ B.table) × (blank.words.seats ≡ 4096) }
-    requires scripts { map wanted scripts.items ≡ B.scripts }
-    ensures served { IfOk result (λ served. AreServed listing.now (map wanted scripts.items) served.reports.items served.closed.core.units) }
+    requires scripts { map shown scripts.items ≡ B.scripts }
+    ensures served { IfOk result (λ served. AreServed listing.now (map shown scripts.entry.items) served.reports.items served.closed.core.units) }
     ensures fault { IfErr result (IsUnservedBy listing.now) }
 {
     let engine = Shared::<B>::new(alloc, blank);
@@ -340,8 +342,8 @@ fn load_and_serve<
 /// Each line of the listing is a SET of job 1, as of `loading::load`, and they are the first units of the journal; the
 /// log is told of each. An empty listing sets nothing.
 ///
-/// A script has as many lines as it says. One of another job is refused, `BadJob`, or for a fault of its own. With no
-/// worker no job is done, and each report is missing.
+/// A line of another job than its script's is refused, `BadJob`, or for a fault of its own. With no worker no job is
+/// done, and each report is missing.
 ///
 /// Where no two scripts are of one job, there is one run of the exact machine from nothing on, of which the closed
 /// journal is the story. In it are each job's steps, in order, and no others: those of the load, by job 1, and then
@@ -361,11 +363,11 @@ pub fn serve<R: Threads + Wait + Sync, L: LoadLog, G: Gate + Sync>(
     alloc: Global,
     listing: &[u8],
     log: &mut L,
-    scripts: Vec<Script>,
+    scripts: Vec<Script<'_>>,
     workers: usize,
     gate: &G,
 ) -> Result<Served, Unserved>
-    ensures served { IfOk result (λ served. AreServed listing.now (map wanted scripts.items) served.reports.items served.closed.core.units) }
+    ensures served { IfOk result (λ served. AreServed listing.now (map shown scripts.entry.items) served.reports.items served.closed.core.units) }
     ensures fault { IfErr result (IsUnservedBy listing.now) }
 {
     match Blank::new(alloc, SEATS) {

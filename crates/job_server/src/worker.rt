@@ -2,9 +2,10 @@
 ghost use Rattle.std.specs.Prelude.{◌≡◌, ◌∷◌, ℕ, List, [], None, Some, slice_get, IfOk, OnOk};
 ghost use Rattle.command.specs.declared.request.Command.{Command};
 ghost use Rattle.command.specs.declared.request.Reply.{Reply};
-ghost use Rattle.job_scripts.specs.Lines.{lines_of_script, Asks};
+ghost use Rattle.job_scripts.specs.Lines.{lent_lines, Asks};
 ghost use Rattle.std.proofs.Props.{props};
-ghost use Rattle.job_server.specs.Served.{wanted, IsReport, HasRunAs, IsReportAt};
+ghost use Rattle.job_scripts.specs.Groups.{shown};
+ghost use Rattle.job_server.specs.Served.{IsReport, HasRunAs, IsReportAt};
 ghost use Rattle.job_server.specs.Steps.{IsRefusedAlone, HasRunScript};
 ghost use Rattle.script.specs.Line.{IsReading};
 ghost use Rattle.job_server.specs.Telling.{Refuses, Serves, Advances, not_begun};
@@ -12,16 +13,17 @@ ghost use Rattle.job_server.specs.Telling.{Refuses, Serves, Advances, not_begun}
 use crate::ServerFault;
 use crate::blocks::Tried;
 use crate::cursor::{Cursor, Line};
+use crate::gathering::Asked;
 use crate::job_run::Calls;
 use crate::running::{JobRun, Sessions};
 use crate::turns::Turns;
 use collation::Job;
 use command::{Command, DataCommand, Reply};
 use crossbeam_channel::{Receiver, Sender};
-use job_scripts::{Report, Script, read_for};
+use job_scripts::{Replies, Report, Script};
 use refusal::Refusal;
 use script::{Drafts, LineFault, read_line};
-use shared_engine::{BoardName, Gate, Pass, Stop, Turn};
+use shared_engine::{BoardName, Gate, Hold, Pass, Stop, Turn};
 use std::alloc::{AllocError, Global};
 use std::marker::{Brand, PhantomData};
 use std::sync::Wait;
@@ -29,9 +31,9 @@ use std::sync::Wait;
 /// Which scripts are served. Each call of `serve` picks its own.
 pub(crate) trait Batch {
     ghost use Rattle.std.specs.Prelude.{List};
-    ghost use Rattle.job_server.specs.Served.{Wanted};
+    ghost use Rattle.job_scripts.specs.Groups.{Group};
 
-    ghost scripts: { List Wanted };
+    ghost scripts: { List Group };
 }
 
 impl Batch for Brand {
@@ -42,11 +44,11 @@ impl Batch for Brand {
 
 /// A job that waits to be run: the script at a place among the others.
 #[derive(Drop)]
-pub(crate) struct Task<B: Batch> {
+pub(crate) struct Task<'t, B: Batch> {
     pub(crate) place: usize,
-    pub(crate) script: Script,
+    pub(crate) script: Script<'t>,
     pub(crate) of: PhantomData<B>,
-    pub(crate) ghost from: { slice_get B.scripts place ≡ Some (wanted script) },
+    pub(crate) ghost from: { slice_get B.scripts place ≡ Some (shown script) },
 }
 
 /// A job that was run to its end, with the passes of its sessions.
@@ -67,42 +69,34 @@ pub(crate) struct Done<B: BoardName + Batch> {
 }
 
 // The fault of a report that isn't whole.
-fn missing<B: BoardName>(replies: Vec<Reply>, passes: Vec<Pass<B>>) -> ServerFault {
+fn missing<B: BoardName>(replies: Replies, passes: Vec<Pass<B>>) -> ServerFault {
     drop(replies);
     drop(passes);
     ServerFault::Missing
 }
 
-// What a script's replies and passes make, where there is a reply for each line.
+// What a script's replies and passes make, where they are its job's, and there is a reply for each line.
 fn ran_of<B: BoardName>(
-    alloc: Global,
-    script: &Script,
-    replies: Vec<Reply>,
+    script: &Script<'_>,
+    replies: Replies,
     passes: Vec<Pass<B>>,
 ) -> Result<Ran<B>, ServerFault>
-    ensures report { IfOk result (λ ran. IsReport (wanted script.now) ran.report) }
-    ensures run { IfOk result (λ ran. (since : ℕ) → HasRunScript since script.now.job script.now.text.items replies.items passes.items → HasRunAs since (wanted script.now) ran.report ran.passes.items) }
+    ensures report { IfOk result (λ ran. IsReport (shown script.now) ran.report) }
+    ensures run { IfOk result (λ ran. (since : ℕ) → HasRunScript since script.now.job (lent_lines script.now.lines.items) replies.replies passes.items → HasRunAs since (shown script.now) ran.report ran.passes.items) }
 {
-    if replies.len() != script.lines {
+    if replies.job() != script.job || replies.count() != script.lines.len() {
         return Err(missing(replies, passes));
     }
-    match Report::new(alloc, script.job, replies) {
-        Ok(report) => Ok(Ran { report, passes }),
-        Err(_) => {
-            drop(passes);
-            Err(ServerFault::Memory)
-        }
-    }
+    Ok(Ran {
+        report: Report::new(replies),
+        passes,
+    })
 }
 
 // What a job that was run makes.
-fn ran_to_end<B: BoardName>(
-    alloc: Global,
-    script: &Script,
-    run: JobRun<B>,
-) -> Result<Ran<B>, ServerFault>
-    ensures report { IfOk result (λ ran. IsReport (wanted script.now) ran.report) }
-    ensures run { IfOk result (λ ran. (since : ℕ) → HasRunScript since script.now.job script.now.text.items run.replies run.sessions.past.books → HasRunAs since (wanted script.now) ran.report ran.passes.items) }
+fn ran_to_end<B: BoardName>(script: &Script<'_>, run: JobRun<B>) -> Result<Ran<B>, ServerFault>
+    ensures report { IfOk result (λ ran. IsReport (shown script.now) ran.report) }
+    ensures run { IfOk result (λ ran. (since : ℕ) → HasRunScript since script.now.job (lent_lines script.now.lines.items) run.replies run.sessions.past.books → HasRunAs since (shown script.now) ran.report ran.passes.items) }
 {
     let JobRun {
         sessions,
@@ -116,7 +110,7 @@ fn ran_to_end<B: BoardName>(
     } = sessions;
     drop(open);
     drop(drafts);
-    ran_of(alloc, script, replies, passes)
+    ran_of(script, replies, passes)
 }
 
 // The refusal of a line in a script without a job: its own, or `BadJob` where it can be read.
@@ -139,24 +133,23 @@ fn refuse_line(
     alloc: Global,
     line: &[u8],
     drafts: &mut Drafts,
-    replies: &mut Vec<Reply>,
+    replies: &mut Replies,
 ) -> Result<(), AllocError>
-    ensures { OnOk result ((rest : List (List ℕ)) → Refuses (line.now ∷ rest) rest replies.old.items replies.new.items) }
+    ensures { OnOk result ((rest : List (List ℕ)) → Refuses (line.now ∷ rest) rest replies.old.replies replies.new.replies) }
 {
     let refusal = refusal_of(read_line(alloc, line, drafts));
-    replies.push(Reply::Refused(refusal))?;
-    Ok(())
+    replies.push_refused(refusal)
 }
 
 // Refuses each line.
 #[tactic(auto, using(crate::proofs::Refusing::refuses_none, crate::proofs::Refusing::refuses_then))]
 fn refuse_lines(
     alloc: Global,
-    lines: &[u8],
+    lines: &[&[u8]],
     drafts: &mut Drafts,
-    replies: &mut Vec<Reply>,
+    replies: &mut Replies,
 ) -> Result<(), AllocError>
-    ensures { OnOk result (Refuses (lines_of_script lines.now) [] replies.old.items replies.new.items) }
+    ensures { OnOk result (Refuses (lent_lines lines.now) [] replies.old.replies replies.new.replies) }
 {
     let mut place = Cursor::new(lines);
     'lines: while let Some(line) = place.next() {
@@ -205,6 +198,8 @@ pub(crate) struct Worker<'a, B: BoardName, R, G> {
     pub(crate) alloc: Global,
     pub(crate) calls: Calls<'a, B, R, G>,
     pub(crate) turns: Turns,
+    /// The lines that are done next, and what they were told.
+    pub(crate) hold: Hold,
 }
 
 impl<'a, B: BoardName, R, G> Drop for Worker<'a, B, R, G> {
@@ -213,7 +208,9 @@ impl<'a, B: BoardName, R, G> Drop for Worker<'a, B, R, G> {
             alloc: _,
             calls: _,
             turns: _,
+            hold,
         } = self;
+        drop(hold);
     }
 }
 
@@ -275,7 +272,6 @@ impl<'a, B: BoardName, R: Wait, G: Gate> Worker<'a, B, R, G> {
         match command {
             Command::Start => self.serve_start(run, job, line),
             Command::Commit => self.serve_commit(run, job, line),
-            Command::Access(first) => self.serve_access(run, job, first, line),
             command => self.pass_line(run, job, line, Ok(command)),
         }
     }
@@ -289,9 +285,10 @@ impl<'a, B: BoardName, R: Wait, G: Gate> Worker<'a, B, R, G> {
     ) -> Result<Cursor<'b>, ServerFault>
         ensures { IfOk result (λ behind. Advances job line.entry behind run.old run.new) }
     {
-        match read_for(self.alloc, job, line.text, &mut run.drafts) {
-            Ok(command) => self.serve_command(run, job, line, command),
-            Err(refusal) => self.pass_line(run, job, line, Err(refusal)),
+        match self.read(run, job, line)? {
+            Asked::Many(front) => self.serve_hold(run, job, line, front),
+            Asked::One(Ok(command)) => self.serve_command(run, job, line, command),
+            Asked::One(Err(refusal)) => self.pass_line(run, job, line, Err(refusal)),
         }
     }
 
@@ -309,9 +306,9 @@ impl<'a, B: BoardName, R: Wait, G: Gate> Worker<'a, B, R, G> {
         &mut self,
         run: &mut JobRun<B>,
         job: Job,
-        lines: &[u8],
+        lines: &[&[u8]],
     ) -> Result<(), ServerFault>
-        ensures { OnOk result (Serves job (lines_of_script lines.now) [] run.old run.new) }
+        ensures { OnOk result (Serves job (lent_lines lines.now) [] run.old run.new) }
     {
         let mut place = Cursor::new(lines);
         'lines: while let Some(line) = place.next() {
@@ -323,22 +320,27 @@ impl<'a, B: BoardName, R: Wait, G: Gate> Worker<'a, B, R, G> {
     }
 
     // Does a job's lines, and ends its session.
-    fn serve_all(&mut self, run: &mut JobRun<B>, job: Job, lines: &[u8]) -> Result<(), ServerFault>
-        ensures { OnOk result ((since : ℕ) → run.old ≡ not_begun since → HasRunScript since (Some job) lines.now run.new.replies run.new.sessions.past.books) }
+    fn serve_all(
+        &mut self,
+        run: &mut JobRun<B>,
+        job: Job,
+        lines: &[&[u8]],
+    ) -> Result<(), ServerFault>
+        ensures { OnOk result ((since : ℕ) → run.old ≡ not_begun since → HasRunScript since (Some job) (lent_lines lines.now) run.new.replies run.new.sessions.past.books) }
     {
         self.serve_lines(run, job, lines)?;
         self.stop(&mut run.sessions)
     }
 
     // Runs the lines of a job, whose sessions begin when there are so many units or more.
-    fn run_job(&mut self, job: Job, since: u64, script: &Script) -> Result<Ran<B>, ServerFault>
+    fn run_job(&mut self, job: Job, since: u64, script: &Script<'_>) -> Result<Ran<B>, ServerFault>
         requires { script.now.job ≡ Some job }
-        ensures report { IfOk result (λ ran. IsReport (wanted script.now) ran.report) }
-        ensures run { IfOk result (λ ran. HasRunAs since (wanted script.now) ran.report ran.passes.items) }
+        ensures report { IfOk result (λ ran. IsReport (shown script.now) ran.report) }
+        ensures run { IfOk result (λ ran. HasRunAs since (shown script.now) ran.report ran.passes.items) }
     {
-        let mut run = JobRun::new(self.alloc, since);
-        match self.serve_all(&mut run, job, &script.text) {
-            Ok(()) => ran_to_end(self.alloc, script, run),
+        let mut run = JobRun::new(self.alloc, job, since)?;
+        match self.serve_all(&mut run, job, &script.lines) {
+            Ok(()) => ran_to_end(script, run),
             Err(fault) => {
                 drop(run);
                 Err(fault)
@@ -348,17 +350,23 @@ impl<'a, B: BoardName, R: Wait, G: Gate> Worker<'a, B, R, G> {
 
     // The lines without a job: each is refused.
     #[tactic(auto, using(crate::proofs::Refusing::none_run))]
-    fn run_none(&self, script: &Script) -> Result<Ran<B>, ServerFault>
+    fn run_none(&self, script: &Script<'_>) -> Result<Ran<B>, ServerFault>
         requires { script.now.job ≡ None }
-        ensures report { IfOk result (λ ran. IsReport (wanted script.now) ran.report) }
-        ensures run { IfOk result (λ ran. (since : ℕ) → HasRunAs since (wanted script.now) ran.report ran.passes.items) }
+        ensures report { IfOk result (λ ran. IsReport (shown script.now) ran.report) }
+        ensures run { IfOk result (λ ran. (since : ℕ) → HasRunAs since (shown script.now) ran.report ran.passes.items) }
     {
         let mut drafts = Drafts::new(self.alloc);
-        let mut replies = Vec::new(self.alloc);
-        let refused = refuse_lines(self.alloc, &script.text, &mut drafts, &mut replies);
+        let mut replies = match Replies::new(self.alloc, None) {
+            Ok(replies) => replies,
+            Err(_) => {
+                drop(drafts);
+                return Err(ServerFault::Memory);
+            }
+        };
+        let refused = refuse_lines(self.alloc, &script.lines, &mut drafts, &mut replies);
         drop(drafts);
         match refused {
-            Ok(()) => ran_of(self.alloc, script, replies, Vec::new(self.alloc)),
+            Ok(()) => ran_of(script, replies, Vec::new(self.alloc)),
             Err(_) => {
                 drop(replies);
                 Err(ServerFault::Memory)
@@ -367,9 +375,9 @@ impl<'a, B: BoardName, R: Wait, G: Gate> Worker<'a, B, R, G> {
     }
 
     // Runs a script to its end.
-    fn run_script(&mut self, since: u64, script: &Script) -> Result<Ran<B>, ServerFault>
-        ensures report { IfOk result (λ ran. IsReport (wanted script.now) ran.report) }
-        ensures run { IfOk result (λ ran. HasRunAs since (wanted script.now) ran.report ran.passes.items) }
+    fn run_script(&mut self, since: u64, script: &Script<'_>) -> Result<Ran<B>, ServerFault>
+        ensures report { IfOk result (λ ran. IsReport (shown script.now) ran.report) }
+        ensures run { IfOk result (λ ran. HasRunAs since (shown script.now) ran.report ran.passes.items) }
     {
         match script.job {
             Some(job) => self.run_job(job, since, script),
@@ -381,7 +389,7 @@ impl<'a, B: BoardName, R: Wait, G: Gate> Worker<'a, B, R, G> {
 impl<'a, B: BoardName + Batch, R: Wait, G: Gate> Worker<'a, B, R, G> {
     // Runs a task.
     #[tactic(auto, using(crate::proofs::GoingOn::both_ok, crate::proofs::GoingOn::at_place))]
-    fn run_task(&mut self, task: Task<B>) -> Done<B> {
+    fn run_task(&mut self, task: Task<'_, B>) -> Done<B> {
         let Task {
             place,
             script,
@@ -403,7 +411,7 @@ impl<'a, B: BoardName + Batch, R: Wait, G: Gate> Worker<'a, B, R, G> {
     /// Runs one job after the other, until none waits any more or nobody takes a report.
     pub(crate) fn work(
         &mut self,
-        tasks: Receiver<Task<B>, Global>,
+        tasks: Receiver<Task<'_, B>, Global>,
         reports: Sender<Done<B>, Global>,
     ) {
         for _ in self.calls.rt.forever() {

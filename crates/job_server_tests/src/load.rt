@@ -135,7 +135,8 @@ fn held_by(alloc: Global, journal: &Journal, map: &mut Plain) -> Result<Held, Al
 }
 
 fn served<R: Threads + Wait + Sync>(rt: &R, alloc: Global) -> Result<Served, Fail> {
-    let scripts = scripts_of(alloc, &script(alloc)?)?;
+    let text = script(alloc)?;
+    let scripts = scripts_of(alloc, &text)?;
     let workers = JOBS as usize;
     let served = serve(rt, alloc, b"", &mut NoLog, scripts, workers, &Yielding)?;
     Ok(served)

@@ -73,12 +73,19 @@ fn nothing_is_answered_with_the_listing_alone(rt: HostRuntime) -> Result<(), Fai
     Ok(())
 }
 
-// A script of job 1 with so many lines, alone.
-fn script_of(alloc: Global, text: &[u8], lines: usize) -> Result<Vec<Script>, Fail> {
-    let job = Some(Job::new(1)?);
-    let text = Vec::from_slice(alloc, text)?;
+// A script of job 1, alone.
+fn script_of(alloc: Global, text: &[u8]) -> Result<Vec<Script<'_>>, Fail> {
+    let mut lines = Vec::new(alloc);
+    for line in text.split(|byte| *byte == b'\n') {
+        if !line.is_empty() {
+            lines.push(line)?;
+        }
+    }
     let mut scripts = Vec::new(alloc);
-    scripts.push(Script { job, text, lines })?;
+    scripts.push(Script {
+        job: Some(Job::new(1)?),
+        lines,
+    })?;
     Ok(scripts)
 }
 
@@ -93,9 +100,8 @@ fn replies_of<R: Threads + Wait + Sync>(
     rt: &R,
     alloc: Global,
     text: &[u8],
-    lines: usize,
 ) -> Result<Vec<u8>, Fail> {
-    let scripts = script_of(alloc, text, lines)?;
+    let scripts = script_of(alloc, text)?;
     let served = serve(rt, alloc, b"", &mut NoLog, scripts, 1, &Yielding)?;
     let written = written_reports(alloc, served.reports.as_slice());
     drop(served);
@@ -108,7 +114,7 @@ fn lines_of_other_jobs_are_refused(rt: HostRuntime) -> Result<(), Fail> {
         b"1 SET ^A=1\n2 SET ^A=2\n2 LOCK ^A\n1 TSTART\n2 SET ^A=3\n2 TCOMMIT\n2 HALT\n1 $GET(^A)\n2 FOO\n1 TCOMMIT\n";
     let want =
         b"1 ok\n1 error 12 BadJob\n1 error 12 BadJob\n1 level 1\n1 error 12 BadJob\n1 error 12 BadJob\n1 error 12 BadJob\n1 1\n1 error 1 BadLine\n1 committed\n";
-    let replies = replies_of(&rt, rt.alloc(), script, 10)?;
+    let replies = replies_of(&rt, rt.alloc(), script)?;
     assert_eq!(rt; replies.as_slice(), want.as_slice());
     Ok(())
 }

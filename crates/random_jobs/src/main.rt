@@ -227,14 +227,29 @@ fn answered_alone(alloc: Global, lines: &[u8]) -> Result<Vec<u8>, Outcome> {
     Ok(written)
 }
 
+// The lines of a script as text.
+fn text_of(alloc: Global, script: &Script<'_>) -> Result<Vec<u8>, AllocError> {
+    let mut text = Vec::new(alloc);
+    for line in &script.lines {
+        text.extend_from_slice(line)?;
+        text.push(b'\n')?;
+    }
+    Ok(text)
+}
+
 // Whether a job is answered as it is alone.
-fn is_as_alone(alloc: Global, script: &Script, report: &Report) -> Result<bool, Outcome> {
-    let alone = answered_alone(alloc, &script.text)?;
+fn is_as_alone(alloc: Global, script: &Script<'_>, report: &Report) -> Result<bool, Outcome> {
+    let text = text_of(alloc, script)?;
+    let alone = answered_alone(alloc, &text)?;
     Ok(alone.as_slice() == report.text())
 }
 
 // Whether all jobs are.
-fn are_as_alone(alloc: Global, scripts: &[Script], reports: &[Report]) -> Result<bool, Outcome> {
+fn are_as_alone(
+    alloc: Global,
+    scripts: &[Script<'_>],
+    reports: &[Report],
+) -> Result<bool, Outcome> {
     for (script, report) in scripts.iter().zip(reports.iter()) {
         if !is_as_alone(alloc, script, report)? {
             return Ok(false);

@@ -6,7 +6,7 @@
 //! the journal that it has seen. Each call tells of a journal that goes on from that. What they learn:
 //!
 //! (1) each accepted lone command and each commit adds one receipt, whose unit is just this command with this answer; a
-//!     LOCK one or two, `run_serial` and `trestart_serially` those of their block; no other call any. Their numbers
+//!     LOCK one or two, `hold_lone` and `trestart_serially` those of their commands; no other call any. Their numbers
 //!     rise, and as a transaction begins they are in the journal of its start. A rollback or restart adds one other unit
 //!     exactly where the transaction took a LOCK, the end of a session one more, no other call any;
 //! (2) a read answers what the machine would, on the map of the transaction's start followed by its own commands; a
@@ -58,7 +58,6 @@ mod lent;
 mod locked;
 mod locking;
 mod name;
-mod read_run;
 mod seats;
 mod serial_run;
 mod session;

@@ -19,7 +19,7 @@ use command::{Answer, Command, DataCommand, Reply};
 use lock_name::LockCommand;
 use pin_board::{Board, Lifted};
 use refusal::Refusal;
-use std::alloc::{AllocError, Global};
+use std::alloc::Global;
 
 /// What came of a block.
 #[derive(Drop)]
@@ -51,8 +51,8 @@ fn is_blocked(must: bool, reply: &Reply) -> bool
     }
 }
 
-/// What a data command is replied.
-pub(crate) fn answered(done: Result<Answer, Refusal>) -> Reply
+// What a data command is replied.
+fn answered(done: Result<Answer, Refusal>) -> Reply
     ensures { result ≡ said Answered done }
 {
     match done {
@@ -117,40 +117,9 @@ fn restarted(done: Result<u64, Refusal>) -> Reply
 }
 
 impl Locked {
-    /// Does the commands of a session without a transaction. No other job does anything meanwhile, so no TCOMMIT in them
-    /// begins anew. Each LOCK is one try; behind one that is blocked, and has to have its names, nothing is done. A
-    /// command's refusal is its reply.
-    ///
-    /// `AllocError` where there is no room for the replies, and nothing has changed.
-    pub(crate) fn run_serial(
-        &mut self,
-        board: &Board,
-        desk: &mut Lifted,
-        alloc: Global,
-        session: &mut InnerSession,
-        block: Vec<Command>,
-        musts: &[bool],
-    ) -> Result<SerialRun, AllocError>
-        requires own { (desk.old.table ≡ board.now.table) × (session.old.table ≡ board.now.table) }
-        requires stands { IsLocked self.old.core desk.old self.old.seats self.old.horizon self.old.opened }
-        requires level { session.old.held.state.level ≡ 0 }
-        requires goes_on { All (λ (c : Command). c ≢ Command.Halt) block.items }
-        ensures table { (desk.new.table ≡ desk.old.table) × (session.new.table ≡ session.old.table) }
-        ensures stands { IsLocked self.new.core desk.new self.new.seats self.new.horizon self.new.opened }
-        ensures come { IfOk result (λ run. HasCome musts.now block.items run self.old.core.units self.new.core.units (knowing self.old.core.units session.old.held) session.new.held) }
-        ensures journal { OnOk result (IsJournalOf self.old.core.units session.old.held) }
-        ensures commits { IfOk result (λ run. NoneBeganAnew block.items run) }
-        ensures seen { OnOk result (session.new.held.seen ≡ self.new.core.units) }
-        ensures refused { OnErr result ((self.new.core ≡ self.old.core) × (session.new.held ≡ session.old.held)) }
-        ensures others { (desk.new.knows.given ≡ desk.old.knows.given) × (self.new.seats ≡ self.old.seats) }
-    {
-        let replies = Vec::with_capacity(alloc, block.len())?;
-        self.find_journal(board, desk, session);
-        Ok(self.run_alone(board, desk, session, block, musts, replies))
-    }
-
-    /// TRESTART of an open transaction, and then the commands behind it, as `run_serial` does them: no other job does
-    /// anything from where it begins anew.
+    /// TRESTART of an open transaction, and then the commands behind it: no other job does anything from where it begins
+    /// anew, so no TCOMMIT in them begins it anew. Each LOCK is one try; behind one that is blocked, and has to have its
+    /// names, nothing is done. A command's refusal is its reply.
     ///
     /// Refusals, after which nothing has changed but what the session has seen: those of TRESTART; and `OutOfMemory` for
     /// the replies.

@@ -12,7 +12,7 @@ ghost use Rattle.job_core.specs.Sessions.{IsAnsweredOrRefused};
 ghost use Rattle.pin_board.specs.Slips.{AreInJournal, IsBeginning};
 ghost use Rattle.command.specs.declared.access.DataCommand.{DataCommand};
 ghost use Rattle.command.specs.declared.request.Command.{Command};
-ghost use Rattle.shared_engine.specs.Blocks.{IsLone, WasTried, HasItsNames, WasBlocked, WasRefused, IsRolledBack, IsRestarted, AreDone, HasCome, NoneBeganAnew};
+ghost use Rattle.shared_engine.specs.Blocks.{IsLone, WasTried, HasItsNames, WasBlocked, WasRefused, IsRolledBack, IsRestarted, HasCome, NoneBeganAnew};
 ghost use Rattle.shared_engine.specs.Receipts.{Book, IsOwn, RisesFrom};
 ghost use Rattle.shared_engine.specs.Sessions.{held, knowing, begun_anew, ended, HasBegun, IsJournalOf};
 ghost use Rattle.shared_engine.specs.Engines.{HasEnded, gone_back, IsCauseAtRestart, MayBeTaken, OnOkThat, OnOkNot, AreAllReceipts, AreAllUnits, HasSeenOf};
@@ -28,11 +28,11 @@ use crate::session::{Pass, Session};
 use crate::turn::Turn;
 use crate::under::Under;
 use collector::Progress;
-use command::{Answer, Command, DataCommand, Reply};
+use command::{Answer, Command, DataCommand};
 use lock_name::LockCommand;
 use pin_board::{Blank, Board};
 use refusal::Refusal;
-use std::alloc::{AllocError, Global};
+use std::alloc::Global;
 use std::marker::PhantomData;
 use std::sync::Wait;
 
@@ -43,15 +43,6 @@ pub struct Shared<B: BoardName> {
     pub(crate) board: Board,
     pub(crate) lock: AdaptiveLock<Under<B>>,
     ghost own: { board.table ≡ B.table },
-}
-
-// How a block of this session waits for the lock: a run of lone commands long, a transaction that was overtaken not.
-fn patience_of<B: BoardName>(session: &Session<B>) -> Patience {
-    if session.tlevel() == 0 {
-        Patience::Long
-    } else {
-        Patience::Short
-    }
 }
 
 impl<B: BoardName> Shared<B> {
@@ -278,31 +269,6 @@ impl<B: BoardName> Shared<B> {
         under.locked.read_met(&mut session.inner, command)
     }
 
-    /// Data commands of an open transaction, one after the other, each as `read` does it, under one hold of the shared
-    /// lock. Answers the reply to each, a refusal too: after one nothing has changed, and the others are done.
-    ///
-    /// `AllocError` where there is no room for the replies, and nothing has changed.
-    pub fn read_all<R: Wait>(
-        &self,
-        rt: &R,
-        alloc: Global,
-        session: &mut Session<B>,
-        block: Vec<Command>,
-    ) -> Result<Vec<Reply>, AllocError>
-        requires level { 1 ≤ session.old.state.level }
-        requires accesses { All (λ (c : Command). (d : DataCommand) × (c ≡ Command.Access d)) block.items }
-        ensures done { IfOk result (λ replies. AreDone block.items replies.items session.new.seen session.new.seen (knowing session.new.seen session.old) session.new) }
-        ensures journal { OnOk result (IsJournalOf session.new.seen session.old) }
-        ensures each { IfOk result (λ replies. vec_len replies ≡ vec_len block) }
-        ensures refused { OnErr result (session.new ≡ session.old) }
-    {
-        let replies = Vec::with_capacity(alloc, block.len())?;
-        let guard = self.lock.read(rt);
-        let under = &*guard;
-        under.meet(rt, &self.board, &mut session.inner);
-        Ok(under.locked.read_all(&mut session.inner, block, replies))
-    }
-
     /// The outermost TCOMMIT: the transaction is a unit with a receipt, or, where another unit touched what it had read,
     /// it begins anew. One that did SETs and KILLs alone never does. The clause speaks of a journal that goes on from all
     /// that the session had seen and has the units of its receipts. Takes the exclusive lock. A turn that is due is taken
@@ -389,47 +355,15 @@ impl<B: BoardName> Shared<B> {
         done
     }
 
-    /// Does the commands of a session without a transaction under one hold of the exclusive lock. Nobody else does
-    /// anything meanwhile, so no TCOMMIT in the block begins anew. Each LOCK is one try. Answers the reply to each
-    /// command, a refusal too: after one nothing has changed, and the block goes on. A transaction that the block leaves
-    /// open stays so. A turn that is due is taken under the same hold, behind the block.
+    /// TRESTART, as `trestart`, and then the commands of a block behind it, under one hold of the exclusive lock: nobody
+    /// does anything from where the transaction begins anew, so no TCOMMIT in the block begins it anew. Each LOCK is one
+    /// try. Answers the reply to each command, a refusal too: after one nothing has changed, and the block goes on. A
+    /// transaction that the block leaves open stays so. A turn that is due is taken under the same hold, behind the
+    /// block. The clause is that of all steps on a journal that goes on from all that the session had seen.
     ///
     /// `musts` says of each command whether, if it is a LOCK, it has to have its names; behind the last of them none
     /// has to. Where such a LOCK is blocked its place is answered, and what stands behind it isn't done: to wait for
     /// the names, and to begin anew, is left to the caller.
-    ///
-    /// `AllocError` where there is no room for the replies, and nothing has changed but that turn.
-    pub fn run_serial<R: Wait>(
-        &self,
-        rt: &R,
-        alloc: Global,
-        session: &mut Session<B>,
-        block: Vec<Command>,
-        musts: &[bool],
-        turn: &mut Turn,
-    ) -> Result<SerialRun, AllocError>
-        requires level { session.old.state.level ≡ 0 }
-        requires goes_on { All (λ (c : Command). c ≢ Command.Halt) block.items }
-        ensures come { IfOk result (λ run. (units : List JournalUnit) × IsJournalOf units session.old × HasCome musts.now block.items run units session.new.seen (knowing units session.old) session.new) }
-        ensures commits { IfOk result (λ run. NoneBeganAnew block.items run) }
-        ensures refused { OnErr result (session.new ≡ session.old) }
-        ensures turn { MayBeTaken turn.old turn.new }
-    {
-        let mut guard = self.lock.write(rt, patience_of(session));
-        let under = &mut *guard;
-        let mut desk = under.desk.lift(rt);
-        let inner = &mut session.inner;
-        let done = under
-            .locked
-            .run_serial(&self.board, &mut desk, alloc, inner, block, musts);
-        under.locked.take_turn(&self.board, &mut desk, turn);
-        under.desk.set_down(desk);
-        done
-    }
-
-    /// TRESTART, as `trestart`, and then the commands of a block behind it, as `run_serial`, under one hold of the
-    /// exclusive lock: nobody does anything from where the transaction begins anew. The clause is that of both steps on
-    /// a journal that goes on from all that the session had seen.
     ///
     /// Refusals, after which nothing has changed but that turn and what the session has seen: those of `trestart`, and
     /// `OutOfMemory` for the replies.

@@ -11,6 +11,8 @@ mod beside;
 mod blocks;
 mod crossing;
 #[cfg(test)]
+mod holds;
+#[cfg(test)]
 mod kinds;
 #[cfg(test)]
 mod many;

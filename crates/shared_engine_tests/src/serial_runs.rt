@@ -43,7 +43,7 @@ const WANTED: [&str; 11] = [
 ];
 
 // The commands of lines, of which none is a HALT.
-pub(crate) fn block_of(alloc: Global, lines: &[&str]) -> Option<Vec<Command>>
+fn block_of(alloc: Global, lines: &[&str]) -> Option<Vec<Command>>
     ensures { IfSome result (λ block. All (λ (c : Command). c ≢ Command.Halt) block.items) }
 {
     let mut block = Vec::new(alloc);
@@ -143,7 +143,7 @@ fn a_block_commits_though_others_wrote(rt: HostRuntime) -> Result<(), Fail> {
 // The lines of a block whose LOCK is blocked, by another job that holds ^X.
 const CUT: [&str; 3] = ["1 SET ^Y=1", "1 LOCK +^X", "1 SET ^Y=2"];
 
-// What comes of that block of a session without a transaction, where the LOCK has to have its names or not.
+// What comes of that block in a transaction that begins anew, where the LOCK has to have its names or not.
 fn cut<B: BoardName, R: Wait>(
     rt: &R,
     alloc: Global,
@@ -151,12 +151,12 @@ fn cut<B: BoardName, R: Wait>(
     mine: &mut Session<B>,
     must: bool,
 ) -> Option<SerialRun> {
-    if mine.tlevel() > 0 {
+    if mine.tlevel() == 0 {
         return None;
     }
     let block = block_of(alloc, &CUT)?;
     engine
-        .run_serial(rt, alloc, mine, block, &[false, must], &mut Turn::NotDue)
+        .trestart_serially(rt, alloc, mine, block, &[false, must], &mut Turn::NotDue)
         .ok()
 }
 
@@ -188,7 +188,7 @@ fn goes_on_behind<B: BoardName, R: Wait>(
     }
 }
 
-// Both, and what another job sees behind each.
+// Both, and what the transaction sees behind each.
 fn is_cut_as_wanted<B: BoardName, R: Wait>(
     rt: &R,
     alloc: Global,
@@ -197,10 +197,11 @@ fn is_cut_as_wanted<B: BoardName, R: Wait>(
     other: &mut Session<B>,
 ) -> bool {
     is_replied(rt, alloc, engine, other, "2 LOCK +^X", "0 1\n")
+        && is_replied(rt, alloc, engine, mine, "1 TSTART", "0 level 1\n")
         && ends_at_lock(rt, alloc, engine, mine)
-        && is_replied(rt, alloc, engine, other, "2 $GET(^Y)", "0 1\n")
+        && is_replied(rt, alloc, engine, mine, "1 $GET(^Y)", "0 1\n")
         && goes_on_behind(rt, alloc, engine, mine)
-        && is_replied(rt, alloc, engine, other, "2 $GET(^Y)", "0 2\n")
+        && is_replied(rt, alloc, engine, mine, "1 $GET(^Y)", "0 2\n")
 }
 
 // The other session, of job 2.

@@ -1,11 +1,10 @@
 //! Turns of the collector that go with a call which writes.
 ghost use Rattle.std.specs.Prelude.{◌≡◌};
 
-use crate::serial_runs::block_of;
-use command::Reply;
+use crate::holds::{is_told, push_line};
 use pin_board::{Blank, SEATS};
-use session_acts::{is_replied, is_written, opened};
-use shared_engine::{BoardName, SerialRun, Session, Shared, Turn};
+use session_acts::{is_replied, opened};
+use shared_engine::{BoardName, Hold, Session, Shared, Turn};
 use std::alloc::Global;
 use std::marker::Brand;
 use std::sync::Wait;
@@ -14,15 +13,7 @@ use std::test::*;
 // The turn that is handed to each call.
 const DUE: Turn = Turn::Due(64);
 
-// Whether the first of the replies is written so.
-fn are_replied(alloc: Global, replies: &[Reply], want: &str) -> bool {
-    match replies.first() {
-        Some(reply) => is_written(alloc, reply, want),
-        None => false,
-    }
-}
-
-// The turn that was handed to a block of this line, once it was replied to so.
+// The turn that was handed to a hold of this line, once it was told so.
 fn turn_with<B: BoardName, R: Wait>(
     rt: &R,
     alloc: Global,
@@ -31,16 +22,19 @@ fn turn_with<B: BoardName, R: Wait>(
     line: &str,
     want: &str,
 ) -> Option<Turn> {
+    let mut turn = DUE;
+    let mut hold = Hold::new(alloc);
+    hold.begin(alloc, 1).ok()?;
+    push_line(alloc, &mut hold, line)?;
     if session.tlevel() != 0 {
         return None;
     }
-    let mut turn = DUE;
-    let block = block_of(alloc, &[line])?;
-    let is_done = match engine.run_serial(rt, alloc, session, block, &[], &mut turn) {
-        Ok(SerialRun::Done(replies)) => are_replied(alloc, &replies, want),
-        _ => false,
-    };
-    if is_done { Some(turn) } else { None }
+    engine.hold_lone(rt, session, &mut hold, &mut turn);
+    if is_told(hold.served().next(), want) {
+        Some(turn)
+    } else {
+        None
+    }
 }
 
 // The turn that was handed to a commit of this line's SET.
@@ -84,11 +78,8 @@ fn are_taken<B: BoardName, R: Wait>(
         && has_dropped(turn_with_commit(rt, alloc, engine, mine, "1 SET ^Y=1"), 0)
         && is_replied(rt, alloc, engine, other, "2 $GET(^X)", "0 1\n")
         && is_replied(rt, alloc, engine, other, "2 TROLLBACK", "0 ok\n")
-        && has_dropped(
-            turn_with(rt, alloc, engine, mine, "1 SET ^X=3", "0 ok\n"),
-            2,
-        )
-        && turn_with(rt, alloc, engine, mine, "1 $GET(^X)", "0 3\n") == Some(DUE)
+        && has_dropped(turn_with(rt, alloc, engine, mine, "1 SET ^X=3", "ok"), 2)
+        && turn_with(rt, alloc, engine, mine, "1 $GET(^X)", "3") == Some(DUE)
 }
 
 // The other session, of job 2.
@@ -120,7 +111,7 @@ fn are_taken_by_two<B: BoardName, R: Wait>(rt: &R, alloc: Global, blank: Blank) 
 }
 
 #[test]
-fn turns_go_with_blocks_and_commits(rt: HostRuntime) -> Result<(), Fail> {
+fn turns_go_with_holds_and_commits(rt: HostRuntime) -> Result<(), Fail> {
     let blank = Blank::new(rt.alloc(), SEATS)?;
     let are_taken = are_taken_by_two::<Brand, _>(&rt, rt.alloc(), blank);
     assert!(rt; are_taken);

@@ -1,22 +1,29 @@
 //! Lines by job, blocks, timeouts and reports. Expected from docs/RULES.md and docs/FORMATS.md.
 use collation::Job;
-use command::Reply;
-use job_scripts::{Report, Script, block_of, push_in_place, read_for, scripts_of, timeout_of};
+use command::{Answer, Reply};
+use job_scripts::{
+    Replies, Report, Script, block_of, command_for, push_in_place, read_for, request_for,
+    scripts_of, timeout_of,
+};
 use refusal::Refusal;
 use script::Drafts;
 use std::alloc::{AllocError, Global};
 use std::test::Fail;
 
-// Writes the script's job's number, a colon and its text.
-fn push_script(alloc: Global, text: &mut Vec<u8>, script: &Script) -> Result<(), AllocError> {
+// Writes the script's job's number, a colon and its lines.
+fn push_script(alloc: Global, text: &mut Vec<u8>, script: &Script<'_>) -> Result<(), AllocError> {
     let job = script.job.map_or(0, |job| job.number());
     text.extend_from_slice(job.to_string(alloc)?.as_bytes())?;
     text.push(b':')?;
-    text.extend_from_slice(&script.text)
+    for line in &script.lines {
+        text.extend_from_slice(line)?;
+        text.push(b'\n')?;
+    }
+    Ok(())
 }
 
 // Whether the scripts, one after the other, are written so.
-fn are_written(alloc: Global, scripts: &[Script], want: &str) -> Result<bool, AllocError> {
+fn are_written(alloc: Global, scripts: &[Script<'_>], want: &str) -> Result<bool, AllocError> {
     let mut text = Vec::new(alloc);
     for script in scripts {
         push_script(alloc, &mut text, script)?;
@@ -24,10 +31,10 @@ fn are_written(alloc: Global, scripts: &[Script], want: &str) -> Result<bool, Al
     Ok(text.as_slice() == want.as_bytes())
 }
 
-fn lines_of(scripts: &[Script]) -> usize {
+fn lines_of(scripts: &[Script<'_>]) -> usize {
     let mut lines = 0usize;
     for script in scripts {
-        lines = lines.saturating_add(script.lines);
+        lines = lines.saturating_add(script.lines.len());
     }
     lines
 }
@@ -65,53 +72,39 @@ fn lines_stand_by_job_in_order_of_first_lines(rt: HostRuntime) -> Result<(), Fai
     Ok(())
 }
 
-// How many commands and lines the block has that begins these lines, and what follows it.
-type Ends<'a> = (usize, usize, &'a [u8]);
+// How many commands and lines the block has that begins these lines, and how many lines follow it.
+type Ends = (usize, usize, usize);
 
-fn has_ends(alloc: Global, job: Job, lines: &[u8], want: Ends<'_>) -> Result<bool, AllocError> {
+fn has_ends(alloc: Global, job: Job, lines: &[&[u8]], want: Ends) -> Result<bool, AllocError> {
     let mut drafts = Drafts::new(alloc);
     let block = block_of(alloc, job, lines, &mut drafts)?;
-    Ok((block.commands.len(), block.places.len(), block.rest) == want)
+    Ok((block.commands.len(), block.places.len(), block.rest.len()) == want)
 }
 
 #[test]
 fn blocks_end_where_no_transaction_is_open(rt: HostRuntime) -> Result<(), Fail> {
-    let rows: &[(&[u8], usize, usize, &[u8])] = &[
+    let rows: &[(&[&[u8]], Ends)] = &[
+        (&[b"1 SET ^A=1", b"1 TCOMMIT", b"1 SET ^B=1"], (2, 2, 1)),
         (
-            b"1 SET ^A=1\n1 TCOMMIT\n1 SET ^B=1\n",
-            2,
-            2,
-            b"1 SET ^B=1\n",
+            &[b"1 TSTART", b"1 TCOMMIT", b"1 TCOMMIT", b"1 $TLEVEL"],
+            (3, 3, 1),
         ),
+        (&[b"1 TSTART", b"1 TROLLBACK", b"1 $TLEVEL"], (2, 2, 1)),
         (
-            b"1 TSTART\n1 TCOMMIT\n1 TCOMMIT\n1 $TLEVEL\n",
-            3,
-            3,
-            b"1 $TLEVEL\n",
+            &[b"1 TSTART", b"1 TRESTART", b"1 TCOMMIT", b"1 $TLEVEL"],
+            (3, 3, 1),
         ),
-        (b"1 TSTART\n1 TROLLBACK\n1 $TLEVEL\n", 2, 2, b"1 $TLEVEL\n"),
+        (&[b"1 $GET(^A)", b"1 HALT"], (1, 1, 1)),
+        (&[b"1 $GET(^A)", b"1 FOO", b"1 $GET(^B)"], (2, 3, 0)),
         (
-            b"1 TSTART\n1 TRESTART\n1 TCOMMIT\n1 $TLEVEL\n",
-            3,
-            3,
-            b"1 $TLEVEL\n",
+            &[b"2 TCOMMIT", b"2 HALT", b"1 TCOMMIT", b"1 $TLEVEL"],
+            (1, 3, 1),
         ),
-        (b"1 $GET(^A)\n1 HALT\n", 1, 1, b"1 HALT\n"),
-        (b"1 $GET(^A)\n1 FOO\n1 $GET(^B)", 2, 3, b""),
-        (
-            b"2 TCOMMIT\n2 HALT\n1 TCOMMIT\n1 $TLEVEL\n",
-            1,
-            3,
-            b"1 $TLEVEL\n",
-        ),
-        (b"", 0, 0, b""),
+        (&[], (0, 0, 0)),
     ];
     let job = Job::new(1)?;
-    for &(lines, commands, places, rest) in rows {
-        assert!(rt;
-            has_ends(rt.alloc(), job, lines, (commands, places, rest))?,
-            "{lines:?}"
-        );
+    for &(lines, want) in rows {
+        assert!(rt; has_ends(rt.alloc(), job, lines, want)?, "{lines:?}");
     }
     Ok(())
 }
@@ -120,6 +113,15 @@ fn blocks_end_where_no_transaction_is_open(rt: HostRuntime) -> Result<(), Fail> 
 fn refusal_of(alloc: Global, job: Job, line: &[u8]) -> Option<Refusal> {
     let mut drafts = Drafts::new(alloc);
     read_for(alloc, job, line, &mut drafts).err()
+}
+
+// The same of a line that is read in two steps.
+fn refusal_by_steps(alloc: Global, job: Job, line: &[u8]) -> Option<Refusal> {
+    let mut drafts = Drafts::new(alloc);
+    match request_for(alloc, job, line, &mut drafts) {
+        Ok(sentence) => command_for(alloc, job, sentence, &mut drafts).err(),
+        Err(refusal) => Some(refusal),
+    }
 }
 
 #[test]
@@ -131,10 +133,13 @@ fn a_line_is_read_for_its_own_job(rt: HostRuntime) -> Result<(), Fail> {
         (b"12 HALT", Some(Refusal::BadJob)),
         (b"2 FOO", Some(Refusal::BadLine)),
         (b"1 $GET(^A,)", Some(Refusal::BadLine)),
+        (b"1 $GET(^A(\"\"))", Some(Refusal::EmptySubscript)),
+        (b"2 $GET(^A(\"\"))", Some(Refusal::EmptySubscript)),
     ];
     let job = Job::new(1)?;
     for &(line, want) in rows {
         assert_eq!(rt; refusal_of(rt.alloc(), job, line), want, "{line:?}");
+        assert_eq!(rt; refusal_by_steps(rt.alloc(), job, line), want, "{line:?}");
     }
     Ok(())
 }
@@ -146,28 +151,18 @@ fn served_replies(alloc: Global) -> Result<Vec<Reply>, AllocError> {
     Ok(served)
 }
 
-fn replies_at(alloc: Global, places: &[Option<Refusal>]) -> Result<Vec<Reply>, AllocError> {
-    let mut replies = Vec::new(alloc);
+// The text of these replies in their places.
+fn text_at(alloc: Global, job: Job, places: &[Option<Refusal>]) -> Result<Report, AllocError> {
+    let mut replies = Replies::new(alloc, Some(job))?;
     push_in_place(places, served_replies(alloc)?, &mut replies)?;
-    Ok(replies)
-}
-
-// Whether these are a level, a refusal and a commit.
-fn are_in_place(replies: &[Reply]) -> bool {
-    matches!(
-        replies,
-        [
-            Reply::AtLevel(2),
-            Reply::Refused(Refusal::BadLine),
-            Reply::Committed
-        ]
-    )
+    Ok(Report::new(replies))
 }
 
 #[test]
 fn replies_of_a_block_stand_in_their_places(rt: HostRuntime) -> Result<(), Fail> {
-    let replies = replies_at(rt.alloc(), &[None, Some(Refusal::BadLine), None])?;
-    assert!(rt; are_in_place(&replies));
+    let job = Job::new(1)?;
+    let report = text_at(rt.alloc(), job, &[None, Some(Refusal::BadLine), None])?;
+    assert!(rt; report.text() == b"1 level 2\n1 error 1 BadLine\n1 committed\n".as_slice());
     Ok(())
 }
 
@@ -190,17 +185,39 @@ fn timeouts_are_seconds_behind_the_last_colon(rt: HostRuntime) -> Result<(), Fai
     Ok(())
 }
 
-fn two_replies(alloc: Global) -> Result<Vec<Reply>, AllocError> {
-    let mut replies = Vec::new(alloc);
-    replies.push(Reply::Finished)?;
-    replies.push(Reply::Refused(Refusal::BadLine))?;
+fn two_replies(alloc: Global, job: Option<Job>) -> Result<Replies, AllocError> {
+    let mut replies = Replies::new(alloc, job)?;
+    replies.push(&Reply::Finished)?;
+    replies.push_refused(Refusal::BadLine)?;
     Ok(replies)
 }
 
 // Whether a report of two replies has this text, and tells that one is a refusal.
 fn is_told(alloc: Global, job: Option<Job>, text: &[u8]) -> Result<bool, AllocError> {
-    let report = Report::new(alloc, job, two_replies(alloc)?)?;
+    let report = Report::new(two_replies(alloc, job)?);
     Ok(report.refused() && report.text() == text)
+}
+
+// Two replies, a refusal that is taken back, and one reply more of each kind.
+fn went_back(alloc: Global, job: Job) -> Result<Report, AllocError> {
+    let mut replies = Replies::new(alloc, Some(job))?;
+    replies.push_done()?;
+    replies.push_got(b"7")?;
+    let mark = replies.mark();
+    replies.push_refused(Refusal::BadLine)?;
+    if !replies.back_to(mark) {
+        return Err(AllocError);
+    }
+    replies.push_answer(&Answer::Number(10))?;
+    Ok(Report::new(replies))
+}
+
+#[test]
+fn replies_go_back_to_a_mark(rt: HostRuntime) -> Result<(), Fail> {
+    let report = went_back(rt.alloc(), Job::new(3)?)?;
+    assert!(rt; report.text() == b"3 ok\n3 7\n3 10\n".as_slice());
+    assert!(rt; report.count() == 3 && !report.refused());
+    Ok(())
 }
 
 #[test]

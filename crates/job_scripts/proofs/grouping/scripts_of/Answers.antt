@@ -1,8 +1,16 @@
-use Rattle.job_scripts.proofs.Runs.{on_from}
+use Rattle.std.proofs.Common.{rules}
+use Rattle.job_scripts.specs.Groups.{lines_in}
+use Rattle.job_scripts.proofs.Placing.{no_places, none_so_far, so_far_on}
 use Rattle.job_scripts.proofs.grouping.scripts_of.Goals as goal
+
+pub lines-init : goal.lines-init
+lines-init c = record {
+  places = no_places c.in_ok-from_elem.field-0.items c.new.result.items (search rules) c.new.ensures.items;
+  so_far = none_so_far c.args.text.now c.into_iter-line-iterator.result c.new.result.items c.new.ensures.items (search rules);
+}
 
 pub lines-preserved : goal.lines-preserved
 lines-preserved c = record {
-  numbers = c.in_ok-take_lines.ensures.numbers;
-  so_far = on_from c.lines.lines _ _ _ c.in-Some.line.now c.as_bytes.result.now c.in_ok-take_lines.field-0.now _ _ c.in-Some.ensures.steps c.as_bytes.ensures c.lines-lines-in-Some.ensures.value c.in_ok-take_lines.ensures.scripts c.lines.invariant.so_far;
+  places = c.in_ok-take_line.ensures.places;
+  so_far = so_far_on (lines_in c.args.text.now) c.lines.line-iterator c.next.new.self c.in-Some.line.now c.lines.groups.scripts.items c.take_line.new.groups.scripts.items c.in-Some.ensures.steps c.in_ok-take_line.ensures.scripts c.lines.invariant.so_far;
 }

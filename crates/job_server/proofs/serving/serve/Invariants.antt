@@ -1,5 +1,5 @@
 use Rattle.std.proofs.Common.{map}
-use Rattle.job_server.specs.Served.{wanted}
+use Rattle.job_scripts.specs.Groups.{shown}
 use Rattle.job_server.proofs.serving.serve.Given as goal
 
 -- the board is the blank one, and the scripts are these
@@ -7,4 +7,4 @@ abbrev pub ghosts-load_and_serve-B-BoardName : goal.ghosts-load_and_serve-B-Boar
 ghosts-load_and_serve-B-BoardName g a = record { table = a.blank.seat.table_id }
 
 abbrev pub ghosts-load_and_serve-B-Batch : goal.ghosts-load_and_serve-B-Batch
-ghosts-load_and_serve-B-Batch g a = record { scripts = map wanted a.scripts.items }
+ghosts-load_and_serve-B-Batch g a = record { scripts = map shown a.scripts.items }

@@ -1,5 +1,5 @@
 use Rattle.std.proofs.Common.{refl}
-use Rattle.job_scripts.proofs.Blocks.{refusal_in_front}
+use Rattle.job_scripts.specs.laws.InFront.{refusal_in_front}
 use Rattle.job_scripts.proofs.block.Block.refuse.Goals as goal
 
 pub returns-clause-asked : goal.returns-clause-asked

@@ -8,13 +8,13 @@ use Rattle.job_server.proofs.worker.Worker.begin_block.Goals as goal
 pub returns-clause-passed : goal.returns-clause-passed
 returns-clause-passed g c =
     let line = c.args.line in
-    let inside = running c.run.inside.replies.items c.run.inside.sessions in
-    let new = running c.push.new.self.items c.do_line.new.sessions in
+    let inside = running c.run.inside.replies.replies c.run.inside.sessions in
+    let new = running c.note_reply.new.replies.replies c.do_line.new.sessions in
     subst (λ (x : Running). Advances c.args.job line line.next x new) c.run.view_is
-    (passed c.args.job line (Ok Start) c.in_ok-reply.reply inside new c.requires (λ e. absurd (cc)) c.in_ok-push.ensures.items c.in_ok-reply.ensures)
+    (passed c.args.job line (Ok Start) c.in_ok-reply.reply inside new c.requires (λ e. absurd (cc)) c.in_ok-note_reply.ensures c.in_ok-reply.ensures)
 
 pub returns-clause-begun : goal.returns-clause-begun
 returns-clause-begun g c =
-    let inside = running c.run.inside.replies.items c.run.inside.sessions in
-    let new = running c.push.new.self.items c.do_line.new.sessions in
-    begun_where c.args.job c.args.line c.in_ok-reply.reply c.is_begun-begun.result c.args.run.now inside new c.run.view_is c.requires c.is_begun-begun.ensures c.in_ok-push.ensures.items c.in_ok-reply.ensures
+    let inside = running c.run.inside.replies.replies c.run.inside.sessions in
+    let new = running c.note_reply.new.replies.replies c.do_line.new.sessions in
+    begun_where c.args.job c.args.line c.in_ok-reply.reply c.is_begun-begun.result c.args.run.now inside new c.run.view_is c.requires c.is_begun-begun.ensures c.in_ok-note_reply.ensures c.in_ok-reply.ensures

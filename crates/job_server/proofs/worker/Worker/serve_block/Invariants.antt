@@ -1,11 +1,9 @@
-use Rattle.std.proofs.Common.{◌≡◌, length}
 use Rattle.job_server.specs.Telling.{Begins}
 use Rattle.job_server.proofs.worker.Worker.serve_block.Given as goal
 
 -- the transaction stands as behind its TSTART
 abbrev pub invariant-tries : goal.invariant-tries
 invariant-tries g l = record {
-  kept : l.kept ≡ length l.run.replies;
   began : Begins l.fn.job l.fn.line l.fn.run l.run;
 }
 

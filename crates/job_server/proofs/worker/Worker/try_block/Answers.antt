@@ -12,7 +12,7 @@ lines-preserved g c =
     let behind = c.in-Within.behind in
     let now = c.lines.run in
     let new = c.try_line.new.run in
-    let tried : HasTried job line c.in_ok-behind.field-0 now new = subst (λ (x : Running). HasTried job line c.in_ok-behind.field-0 x new) c.run.view_is c.in_ok-behind.ensures in
+    let tried : HasTried job line c.in_ok-behind.field-0 now new = subst (λ (x : Running). HasTried job line c.in_ok-behind.field-0 x new) c.read.ensures.same c.in_ok-behind.ensures in
     let on : HasTried job line (Within behind) now new = subst (λ (t : Tried). HasTried job line t now new) c.in-Within.is tried in
     within_on job c.args.begin.lines.now c.lines.place line behind c.args.run.now now new c.lines.invariant c.in-Some.ensures.first c.in-Some.ensures.fewer on
 
@@ -23,7 +23,7 @@ returns-in-Over-clause-over g c =
     let behind = c.in-Over.behind in
     let now = c.lines.run in
     let new = c.try_line.new.run in
-    let tried : HasTried job line c.in_ok-behind.field-0 now new = subst (λ (x : Running). HasTried job line c.in_ok-behind.field-0 x new) c.run.view_is c.in_ok-behind.ensures in
+    let tried : HasTried job line c.in_ok-behind.field-0 now new = subst (λ (x : Running). HasTried job line c.in_ok-behind.field-0 x new) c.read.ensures.same c.in_ok-behind.ensures in
     let on : HasTried job line (Over behind) now new = subst (λ (t : Tried). HasTried job line t now new) c.in-Over.is tried in
     reaches_on job c.args.begin.lines.now c.lines.place line behind c.args.run.now now new c.lines.invariant.0 c.in-Some.ensures.first c.in-Some.ensures.fewer on
 
@@ -33,6 +33,6 @@ returns-in-Back-clause-again g c =
     let line = c.in-Some.line in
     let now = c.lines.run in
     let new = c.try_line.new.run in
-    let tried : HasTried job line c.in_ok-behind.field-0 now new = subst (λ (x : Running). HasTried job line c.in_ok-behind.field-0 x new) c.run.view_is c.in_ok-behind.ensures in
+    let tried : HasTried job line c.in_ok-behind.field-0 now new = subst (λ (x : Running). HasTried job line c.in_ok-behind.field-0 x new) c.read.ensures.same c.in_ok-behind.ensures in
     let back : HasTried job line Back now new = subst (λ (t : Tried). HasTried job line t now new) c.in-Back.is tried in
     is_back job c.args.begin.lines.now c.lines.place line c.args.run.now now new c.lines.invariant c.in-Some.ensures.first back

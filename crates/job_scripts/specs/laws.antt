@@ -1,0 +1,2 @@
+pub mod InFront
+pub mod Numbered
