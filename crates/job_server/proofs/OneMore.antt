@@ -1,6 +1,6 @@
 -- Lines that are gathered, one after the other.
-use Rattle.std.proofs.Common.{◌≡◌, inl, inr, ℕ, ◌+◌, ◌<◌, true, List, [], ◌∷◌, ◌++◌, length, length-append, refl, sym, ap, ◌∙◌, subst, arith}
-use Rattle.std.specs.Prelude.{Some}
+use Rattle.std.proofs.Common.{◌≡◌, ◌⊎◌, inl, inr, ℕ, ◌+◌, ◌<◌, true, List, [], ◌∷◌, ◌++◌, length, length-append, refl, sym, ap, ◌∙◌, subst, arith}
+use Rattle.std.specs.Prelude.{Option, Some, None, take}
 use Rattle.std.specs.List.{All}
 use Rattle.std.proofs.lemmas.List.{map-append}
 use Rattle.std.proofs.lemmas.List.Elements.{All-push, All-same}
@@ -27,6 +27,36 @@ one_gathered job all before rest line old new (musts, h) next (inr (command, ask
   command_in_front job all before rest old.places new.places (accesses old.commands) (accesses new.commands) musts (musts ++ true ∷ []) line (Access command) true h next asks (λ untimed. refl) (ap (λ (x : Lines). x.places) is)
       (ap (λ (x : Lines). accesses x.commands) is ∙ map-append Access old.commands (command ∷ [])) refl,
 )
+
+-- the first line stands there alone, refused so or accepted
+one_place : (job : ℕ) (line : List ℕ) (most : ℕ) (old new : Lines) → old ≡ lines_held [] [] [] most → HasOneMore job line old new → ((refusal : Refusal) × IsRefusedAs job line refusal × (new.places ≡ Some refusal ∷ [])) ⊎ (new.places ≡ None ∷ [])
+one_place job line most old new begun (inl (refusal, refused, is)) = inl (refusal, refused, ap (λ (x : Lines). x.places) is ∙ ap (λ (x : Lines). x.places ++ Some refusal ∷ []) begun)
+one_place job line most old new begun (inr (command, asks, is)) = inr (ap (λ (x : Lines). x.places) is ∙ ap (λ (x : Lines). x.places ++ None ∷ []) begun)
+
+-- what is found there is the place's own
+abbrev pub IsFirst : List (Option Refusal) → Option Refusal → Type 0
+IsFirst places found = (first : Option Refusal) → places ≡ first ∷ [] → found ≡ first
+
+pub first_refused : (job : ℕ) (line : List ℕ) (most : ℕ) (old new : Lines) (found : Option Refusal) (refusal : Refusal) → old ≡ lines_held [] [] [] most → HasOneMore job line old new → IsFirst new.places found → found ≡ Some refusal → IsRefusedAs job line refusal
+first_refused job line most old new found refusal begun one first is = elim (one_place job line most old new begun one) [
+  | inl (other, refused, stands) ↦ subst (IsRefusedAs job line) (cc (sym (first (Some other) stands) ∙ is)) refused
+  | inr stands ↦ absurd (cc (sym (first None stands) ∙ is))
+]
+
+pub first_accepted : (job : ℕ) (line : List ℕ) (most : ℕ) (old new : Lines) (found : Option Refusal) → old ≡ lines_held [] [] [] most → HasOneMore job line old new → IsFirst new.places found → found ≡ None → take 1 new.places ≡ None ∷ []
+first_accepted job line most old new found begun one first is = elim (one_place job line most old new begun one) [
+  | inl (other, refused, stands) ↦ absurd (cc (sym (first (Some other) stands) ∙ is))
+  | inr stands ↦ ap (take 1) stands
+]
+
+-- and goes on to stand first
+still_first : (first place : Option Refusal) (places : List (Option Refusal)) → take 1 places ≡ first ∷ [] → take 1 (places ++ place ∷ []) ≡ first ∷ []
+still_first first place [] is = absurd (cc is)
+still_first first place (other ∷ places) is = is
+
+pub accepted_still : (job : ℕ) (line : List ℕ) (old new : Lines) → HasOneMore job line old new → take 1 old.places ≡ None ∷ [] → take 1 new.places ≡ None ∷ []
+accepted_still job line old new (inl (refusal, refused, is)) first = ap (λ (x : Lines). take 1 x.places) is ∙ still_first None (Some refusal) old.places first
+accepted_still job line old new (inr (command, asks, is)) first = ap (λ (x : Lines). take 1 x.places) is ∙ still_first None None old.places first
 
 -- the lines so far stand in a hold, none is done yet, and there is room for so many in all
 abbrev pub AreSoFar : ℕ → List (List ℕ) → List (List ℕ) → ℕ → Lines → Type 0

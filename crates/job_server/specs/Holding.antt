@@ -1,5 +1,5 @@
 -- Lines that are gathered for one hold of the engine's lock. Read HasOneMore, IsGathered and HasHeld.
-use Rattle.std.specs.Prelude.{◌≡◌, ◌⊎◌, ℕ, ◌≤◌, ◌-◌, Bool, List, [], ◌∷◌, ◌++◌, length, Option, None, Some}
+use Rattle.std.specs.Prelude.{◌≡◌, ◌⊎◌, ℕ, ◌≤◌, ◌-◌, Bool, List, [], ◌∷◌, ◌++◌, length, take, Option, None, Some}
 use Rattle.std.specs.List.{All}
 use Rattle.refusal.specs.declared.Refusal.{Refusal}
 use Rattle.command.specs.declared.access.DataCommand.{DataCommand}
@@ -36,8 +36,9 @@ HasOneMore job line old new =
 abbrev pub AreGathered : ℕ → List (List ℕ) → List (List ℕ) → Lines → Type 0
 AreGathered job all rest hold = (musts : List Bool) × AreInFront job all rest hold.places (accesses hold.commands) musts
 
--- this line and those behind it stand in a hold, none is done yet, and they are SETs where they are done as such
+-- this line, which is accepted, and those behind it stand in a hold, none is done yet, and they are SETs where they are done as such
 pub record IsGathered (job : ℕ) (line : Line) (front : Front) (hold : Lines) : Type 0 where
+  pub accepted : take 1 hold.places ≡ None ∷ []
   pub fewer : length front.rest.now ≤ length line.next.lines.now
   pub gathered : AreGathered job (line.text.now ∷ lent_lines line.next.lines.now) (lent_lines front.rest.now) hold
   pub none : hold.served ≡ []

@@ -1,10 +1,11 @@
 //! The data commands at the front of a job's lines, gathered for one hold of the engine's lock.
-ghost use Rattle.std.specs.Prelude.{◌≡◌, ◌≤◌, ◌+◌, ℕ, List, true, length, IfOk, OnOk};
+ghost use Rattle.std.specs.Prelude.{◌≡◌, ◌≤◌, ◌+◌, ◌∷◌, ℕ, List, [], Option, true, length, IfOk, OnOk};
 ghost use Rattle.std.specs.List.{All};
+ghost use Rattle.refusal.specs.declared.Refusal.{Refusal};
 ghost use Rattle.script.specs.Asked.{IsAsked};
 ghost use Rattle.script.specs.Sentence.{SpellsSome};
 ghost use Rattle.shared_engine.specs.Holds.{IsSet};
-ghost use Rattle.job_server.specs.Holding.{HasOneMore, IsGathered};
+ghost use Rattle.job_server.specs.Holding.{HasOneMore, IsAskedAt};
 
 use crate::ServerFault;
 use crate::cursor::Line;
@@ -183,11 +184,22 @@ fn push_asked(
     }
 }
 
+// The refusal of the first line of a hold.
+fn first_refusal(hold: &Hold) -> Option<Refusal>
+    ensures { (first : Option Refusal) → hold.now.places ≡ first ∷ [] → result ≡ first }
+{
+    match hold.places().get(0) {
+        Some(place) => *place,
+        None => None,
+    }
+}
+
 /// Begins a hold with a job's line, which is read as far as its sentence, and takes in those behind it: up to the line
-/// that asks for something else than a data command, or that isn't done in this way, or to so many in all.
+/// that asks for something else than a data command, or that isn't done in this way, or to so many in all. Where the
+/// first line is refused for its key or value, that is answered of it alone: no session begins for it.
 ///
-/// `ServerFault::Memory` where memory for the hold is refused. A line that can't be read, also for want of memory, or
-/// that is another job's, has its refusal in its place.
+/// `ServerFault::Memory` where memory for the hold is refused. A line behind the first that can't be read, also for want
+/// of memory, or that is another job's, has its refusal in its place.
 pub(crate) fn gather<'b>(
     alloc: Global,
     job: Job,
@@ -196,14 +208,17 @@ pub(crate) fn gather<'b>(
     way: Way,
     drafts: &mut Drafts,
     hold: &mut Hold,
-) -> Result<Front<'b>, ServerFault>
+) -> Result<Asked<'b>, ServerFault>
     requires asked { IsAsked line.text.now drafts.old job (Sentence.Access first) }
     requires sets { way ≡ Way.Sets → first ≡ DataSentence.Set }
-    ensures { IfOk result (λ front. IsGathered job line.entry front hold.new) }
+    ensures { IfOk result (λ asked. IsAskedAt job line.entry asked hold.new) }
 {
     let most = way.most();
     hold.begin(alloc, most)?;
     push_asked(alloc, job, first, drafts, hold)?;
+    if let Some(refusal) = first_refusal(hold) {
+        return Ok(Asked::One(Err(refusal)));
+    }
     let mut front = Front {
         way,
         writes: writes_of(first),
@@ -223,5 +238,5 @@ pub(crate) fn gather<'b>(
         }
         front.rest = rest;
     }
-    Ok(front)
+    Ok(Asked::Many(front))
 }

@@ -166,8 +166,7 @@ impl<'a, B: BoardName, R: Wait, G: Gate> Worker<'a, B, R, G> {
             Ok(Sentence::Access(first)) if !self.calls.gate.watches_lines() => {
                 let way = Way::of(run.is_open(), first);
                 let hold = &mut self.hold;
-                let front = gather(self.alloc, job, line, first, way, &mut run.drafts, hold)?;
-                Ok(Asked::Many(front))
+                gather(self.alloc, job, line, first, way, &mut run.drafts, hold)
             }
             Ok(sentence) => Ok(Asked::One(command_for(self.alloc, job, sentence, &mut run.drafts))),
             Err(refusal) => Ok(Asked::One(Err(refusal))),

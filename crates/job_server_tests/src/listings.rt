@@ -88,9 +88,10 @@ fn served<R: Threads + Wait + Sync, L: LoadLog>(
     rt: &R,
     alloc: Global,
     listing: &[u8],
+    script: &[u8],
     log: &mut L,
 ) -> Result<Served, Fail> {
-    let scripts = scripts_of(alloc, SCRIPT)?;
+    let scripts = scripts_of(alloc, script)?;
     match serve(rt, alloc, listing, log, scripts, 2, &Yielding) {
         Ok(served) => Ok(served),
         Err(_) => Err(Fail::from(JobsFault::Missing)),
@@ -106,7 +107,7 @@ fn begins_with(alloc: Global, served: &Served, lines: &[u8]) -> Result<bool, Fai
 
 #[test]
 fn a_journal_begins_with_what_was_loaded(rt: HostRuntime) -> Result<(), Fail> {
-    let served = served(&rt, rt.alloc(), LISTING, &mut NoLog)?;
+    let served = served(&rt, rt.alloc(), LISTING, SCRIPT, &mut NoLog)?;
     let begins = begins_with(rt.alloc(), &served, FIRST_LINES);
     let sessions = served.closed.sessions;
     drop(served);
@@ -117,7 +118,7 @@ fn a_journal_begins_with_what_was_loaded(rt: HostRuntime) -> Result<(), Fail> {
 
 #[test]
 fn a_journal_over_no_listing_begins_with_the_jobs(rt: HostRuntime) -> Result<(), Fail> {
-    let served = served(&rt, rt.alloc(), b"", &mut NoLog)?;
+    let served = served(&rt, rt.alloc(), b"", SCRIPT, &mut NoLog)?;
     let begins = begins_with(rt.alloc(), &served, b"1 SET");
     let sessions = served.closed.sessions;
     drop(served);
@@ -126,10 +127,24 @@ fn a_journal_over_no_listing_begins_with_the_jobs(rt: HostRuntime) -> Result<(),
     Ok(())
 }
 
+// Lines of job 1 that are refused for their keys; one of job 2 that is accepted behind such a one.
+const REFUSED: &[u8] = b"1 SET ^A(\"\")=1\n1 $GET(^A(\"\"))\n1 KILL ^A(\"\")\n2 SET ^A(\"\")=1\n2 $GET(^A)\n";
+
+#[test]
+fn a_session_begins_with_an_accepted_line(rt: HostRuntime) -> Result<(), Fail> {
+    let served = served(&rt, rt.alloc(), b"", REFUSED, &mut NoLog)?;
+    let begins = begins_with(rt.alloc(), &served, b"2 $GET(^A)");
+    let sessions = served.closed.sessions;
+    drop(served);
+    assert!(rt; begins?);
+    assert_eq!(rt; sessions, 1);
+    Ok(())
+}
+
 #[test]
 fn a_log_is_told_of_the_lines_that_set_something(rt: HostRuntime) -> Result<(), Fail> {
     let mut told = Told { sum: 0 };
-    let served = served(&rt, rt.alloc(), LISTING, &mut told)?;
+    let served = served(&rt, rt.alloc(), LISTING, SCRIPT, &mut told)?;
     drop(served);
     assert_eq!(rt; told.sum, 30506);
     Ok(())

@@ -1,4 +1,5 @@
-use Rattle.std.proofs.Common.{◌≡◌, ◌≤◌, ◌∷◌, length}
+use Rattle.std.proofs.Common.{◌≡◌, ◌≤◌, ◌∷◌, [], length}
+use Rattle.std.specs.Prelude.{None, take}
 use Rattle.std.specs.List.{All}
 use Rattle.shared_engine.specs.Holds.{IsSet}
 use Rattle.job_scripts.specs.Lines.{lent_lines}
@@ -13,6 +14,7 @@ invariant-lines l = record {
   fewer : length l.front.rest.now ≤ length l.fn.line.next.lines.now;
   sets : l.fn.way ≡ Sets → All IsSet l.hold.commands;
   way : l.front.way ≡ l.fn.way;
+  accepted : take 1 l.hold.places ≡ None ∷ [];
 }
 
 abbrev pub decreases-lines : goal.decreases-lines
