@@ -51,8 +51,7 @@ abbrev pub IsLegalUnit : JournalUnit → State → Type 0
 IsLegalUnit (Lone job command answer) s = IsRight command answer s.map
 IsLegalUnit (Whole job exchanges) s = AreRight exchanges s.map
 IsLegalUnit (Lock job inside command had) s = (lock_refusal job command s.locks ≡ None) × (had ≡ lock_reply job command s.locks)
-IsLegalUnit (Back job) s = ⊤
-IsLegalUnit (End job) s = ⊤
+IsLegalUnit unit s = ⊤
 
 -- each unit is right at its place
 abbrev pub IsLegal : List JournalUnit → State → Type 0

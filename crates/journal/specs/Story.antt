@@ -7,9 +7,9 @@ use Rattle.lock_name.specs.declared.lock.LockCommand.{LockCommand}
 use Rattle.command.specs.declared.access.DataCommand.{DataCommand}
 use Rattle.command.specs.declared.access.Answer.{Answer}
 use Rattle.command.specs.declared.request.Command.{Command}
-use Rattle.command.specs.declared.request.Command.TheVariants.{Access, Lock as lock_command, Start, Commit, Rollback, Restart, Level, Restarts, Halt}
+use Rattle.command.specs.declared.request.Command.TheVariants.{Access, Lock as lock_command, Start, Commit, Rollback, Restart, Halt}
 use Rattle.command.specs.declared.request.Reply.{Reply}
-use Rattle.command.specs.declared.request.Reply.TheVariants.{Answered, Finished, Had, Count, AtLevel, Committed, Restarted, Refused}
+use Rattle.command.specs.declared.request.Reply.TheVariants.{Answered, Finished, Had, AtLevel, Committed, Restarted}
 use Rattle.journal.specs.declared.unit.Exchange.{Exchange}
 use Rattle.journal.specs.declared.unit.Unit.{Unit as JournalUnit}
 use Rattle.journal.specs.declared.unit.Unit.TheVariants.{Lone, Whole, Lock, Back, End}
@@ -72,93 +72,53 @@ abbrev pub told_back : ℕ → Option Transaction → Machine → Machine
 told_back job None s = s
 told_back job (Some t) s = if t.took_lock then add_unit (Back job) s else s
 
--- ---- what a step changes, reply by reply and command by command: only a command with a reply of its own changes something
+-- ---- what a step changes, reply by reply and command by command: a reply that isn't the command's own changes nothing
 
 -- a data command was answered
 abbrev pub on_answered : ℕ → Command → Answer → Machine → Machine
 on_answered job (Access command) answer s = told_answer job command answer (transaction_of job s) s
-on_answered job (lock_command command) answer s = s
-on_answered job Start answer s = s
-on_answered job Commit answer s = s
-on_answered job Rollback answer s = s
-on_answered job Restart answer s = s
-on_answered job Level answer s = s
-on_answered job Restarts answer s = s
-on_answered job Halt answer s = s
+on_answered job command answer s = s
 
 -- LOCK without names, TROLLBACK, HALT are done
 abbrev pub on_finished : ℕ → Command → Machine → Machine
-on_finished job (Access command) s = s
 on_finished job (lock_command command) s = told_lock job command true (transaction_of job s) s
-on_finished job Start s = s
-on_finished job Commit s = s
 on_finished job Rollback s = close job (told_back job (transaction_of job s) s)
-on_finished job Restart s = s
-on_finished job Level s = s
-on_finished job Restarts s = s
 on_finished job Halt s = close job (add_unit (End job) s)
+on_finished job command s = s
 
 -- a LOCK had its names, or had not
 abbrev pub on_had : ℕ → Command → Bool → Machine → Machine
-on_had job (Access command) had s = s
 on_had job (lock_command command) had s = told_lock job command had (transaction_of job s) s
-on_had job Start had s = s
-on_had job Commit had s = s
-on_had job Rollback had s = s
-on_had job Restart had s = s
-on_had job Level had s = s
-on_had job Restarts had s = s
-on_had job Halt had s = s
+on_had job command had s = s
 
 -- TSTART, or an inner TCOMMIT, left this level
 abbrev pub on_level : ℕ → Command → ℕ → Machine → Machine
-on_level job (Access command) level s = s
-on_level job (lock_command command) level s = s
 on_level job Start level s = told_level job level (transaction_of job s) s
 on_level job Commit level s = told_level job level (transaction_of job s) s
-on_level job Rollback level s = s
-on_level job Restart level s = s
-on_level job Level level s = s
-on_level job Restarts level s = s
-on_level job Halt level s = s
+on_level job command level s = s
 
 -- an outer TCOMMIT committed
 abbrev pub on_committed : ℕ → Command → Machine → Machine
-on_committed job (Access command) s = s
-on_committed job (lock_command command) s = s
-on_committed job Start s = s
 on_committed job Commit s = told_commit job (transaction_of job s) s
-on_committed job Rollback s = s
-on_committed job Restart s = s
-on_committed job Level s = s
-on_committed job Restarts s = s
-on_committed job Halt s = s
+on_committed job command s = s
 
 -- TRESTART, or a TCOMMIT that was overtaken, began anew
 abbrev pub on_restarted : ℕ → Command → ℕ → Machine → Machine
-on_restarted job (Access command) restarts s = s
-on_restarted job (lock_command command) restarts s = s
-on_restarted job Start restarts s = s
 on_restarted job Commit restarts s = begin job restarts (told_back job (transaction_of job s) s)
-on_restarted job Rollback restarts s = s
 on_restarted job Restart restarts s = begin job restarts (told_back job (transaction_of job s) s)
-on_restarted job Level restarts s = s
-on_restarted job Restarts restarts s = s
-on_restarted job Halt restarts s = s
+on_restarted job command restarts s = s
 
--- what a step changes, read from its reply: a refused one nothing
+-- what a step changes, read from its reply: one that is refused, or counts, nothing
 abbrev pub told : ℕ → Command → Reply → Machine → Machine
-told job command (Refused refusal) s = s
 told job command (Answered answer) s = on_answered job command answer s
 told job command Finished s = on_finished job command s
 told job command (Had had) s = on_had job command had s
-told job command (Count n) s = s
 told job command (AtLevel level) s = on_level job command level s
 told job command Committed s = on_committed job command s
 told job command (Restarted restarts) s = on_restarted job command restarts s
+told job command reply s = s
 
 -- what steps and their replies change, in turn
 abbrev pub story_of : List (ℕ × Command) → List Reply → Machine → Machine
-story_of [] replies s = s
-story_of (step ∷ steps) [] s = s
 story_of (step ∷ steps) (reply ∷ replies) s = story_of steps replies (told step.0 step.1 reply s)
+story_of steps replies s = s

@@ -15,11 +15,11 @@ use Rattle.command.specs.declared.access.DataCommand.TheVariants.{Set, Kill, Mer
 use Rattle.command.specs.declared.access.Look.{Look as LookCommand}
 use Rattle.command.specs.declared.access.Look.TheVariants.{Data, Get, Order, Query, Name}
 use Rattle.command.specs.declared.access.Answer.{Answer}
-use Rattle.command.specs.declared.access.Answer.TheVariants.{Done, Value, Number, Found}
+use Rattle.command.specs.declared.access.Answer.TheVariants.{Value, Found}
 use Rattle.command.specs.Data.{data_after, takes}
 use Rattle.journal.specs.declared.unit.Exchange.{Exchange}
 use Rattle.journal.specs.declared.unit.Unit.{Unit as JournalUnit}
-use Rattle.journal.specs.declared.unit.Unit.TheVariants.{Lone, Whole, Lock, Back, End}
+use Rattle.journal.specs.declared.unit.Unit.TheVariants.{Lone, Whole}
 use Rattle.journal.specs.History.{State, after_unit, all_after}
 
 -- ---- what is touched
@@ -27,18 +27,14 @@ use Rattle.journal.specs.History.{State, after_unit, all_after}
 -- a command sets x: SET and $INCREMENT their own reference, MERGE each copy; into itself it sets none
 abbrev pub sets : DataCommand → Database → Reference → Bool
 sets (Set r v) m x = ref_eq x r
-sets (Kill r extent) m x = false
 sets (Merge a b) m x = not (ref_eq a b) && (is_under a x && finmap.contains_key m (moved b a x))
 sets (Increment r n) m x = ref_eq x r
-sets (Look look) m x = false
+sets command m x = false
 
 -- a command kills x
 abbrev pub kills : DataCommand → Reference → Bool
-kills (Set r v) x = false
 kills (Kill r extent) x = takes extent r x
-kills (Merge a b) x = false
-kills (Increment r n) x = false
-kills (Look look) x = false
+kills command x = false
 
 -- some command sets x and none after it kills x
 abbrev pub leaves_set : List Exchange → Database → Reference → Bool
@@ -53,9 +49,7 @@ touched_by es m x = leaves_set es m x || (finmap.contains_key m x && not (finmap
 abbrev pub touched : JournalUnit → State → Reference → Bool
 touched (Lone job command answer) s x = touched_by (record { command = command; answer = answer } ∷ []) s.map x
 touched (Whole job exchanges) s x = touched_by exchanges s.map x
-touched (Lock job inside command had) s x = false
-touched (Back job) s x = false
-touched (End job) s x = false
+touched unit s x = false
 
 -- ---- what is read
 
@@ -70,24 +64,18 @@ is_beyond_answer forward (b ∷ bs) t = is_farther forward (b ∷ bs) t
 
 -- what $ORDER read: what stands at or under the subscripts beyond its place up to its answer
 abbrev pub order_read : Bool → Spot → Answer → Reference → Bool
-order_read forward p Done x = false
 order_read forward p (Value t) x = unwrap_or (option_map (λ s. is_beyond forward p s && not (is_beyond_answer forward t s)) (child_of (parent_of p) x)) false
-order_read forward p (Number n) x = false
-order_read forward p (Found r) x = false
+order_read forward p answer x = false
 
 -- what $QUERY read: what follows its place, up to its answer where it found one
 abbrev pub query_read : Bool → Spot → Answer → Reference → Bool
-query_read forward p Done x = follows forward p x
-query_read forward p (Value t) x = follows forward p x
-query_read forward p (Number n) x = follows forward p x
 query_read forward p (Found r) x = follows forward p x && not (is_lt (if forward then ref_cmp r x else ref_cmp x r))
+query_read forward p answer x = follows forward p x
 
 -- what $ORDER of names read: the names beyond its start, up to the one that it found
 abbrev pub name_read : Bool → Option (List ℕ) → Answer → Reference → Bool
-name_read forward start Done x = is_name_beyond forward start x.name
-name_read forward start (Value t) x = is_name_beyond forward start x.name
-name_read forward start (Number n) x = is_name_beyond forward start x.name
 name_read forward start (Found r) x = is_name_beyond forward start x.name && not (is_name_beyond forward (Some r.name) x.name)
+name_read forward start answer x = is_name_beyond forward start x.name
 
 -- what an answered command that looks read
 abbrev pub look_read : LookCommand → Answer → (Reference → Bool) → Reference → Bool
@@ -99,11 +87,10 @@ look_read (Name start direction) answer own x = name_read (is_forward direction)
 
 -- the read set of an answered command, as a test of x; `own` tests what the transaction itself set or killed before
 abbrev pub read_set : DataCommand → Answer → (Reference → Bool) → Reference → Bool
-read_set (Set r v) answer own x = false
-read_set (Kill r extent) answer own x = false
 read_set (Merge a b) answer own x = is_under b x
 read_set (Increment r n) answer own x = ref_eq x r && not (own r)
 read_set (Look look) answer own x = look_read look answer own x
+read_set command answer own x = false
 
 -- what the transaction itself set or killed, once it has done this command on the database m too
 abbrev pub own_after : DataCommand → Database → (Reference → Bool) → Reference → Bool

@@ -28,6 +28,5 @@ are_headers first second = is_header first && (is_header second && ends_in_zwr s
 
 -- two headers or none
 abbrev pub header_lines : List (List ℕ) → ℕ
-header_lines [] = 0
-header_lines (first ∷ []) = 0
 header_lines (first ∷ second ∷ lines) = if are_headers first second then 2 else 0
+header_lines lines = 0

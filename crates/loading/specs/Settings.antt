@@ -7,10 +7,9 @@ use Rattle.std.specs.FinMap as finmap
 use Rattle.collation.specs.Reference.{Reference}
 use Rattle.collation.specs.Database.{Database}
 use Rattle.collation.specs.Answers.{set_all}
-use Rattle.command.specs.declared.access.DataCommand.{DataCommand}
-use Rattle.command.specs.declared.access.DataCommand.TheVariants.{Set, Kill, Merge, Increment, Look}
+use Rattle.command.specs.declared.access.DataCommand.TheVariants.{Set}
 use Rattle.command.specs.declared.request.Command.{Command}
-use Rattle.command.specs.declared.request.Command.TheVariants.{Access, Lock, Start, Commit, Rollback, Restart, Level, Restarts, Halt}
+use Rattle.command.specs.declared.request.Command.TheVariants.{Access}
 use Rattle.script.specs.Line.{reading_of}
 use Rattle.loading.specs.Lines.{all_lines, header_lines}
 
@@ -29,26 +28,12 @@ abbrev pub set_line : List ℕ → List ℕ
 set_line line = codes "1 SET " ++ line
 
 -- what a SET sets; no other command is read from such a line
-abbrev pub set_by : DataCommand → Result Setting Refusal
-set_by (Set r v) = Ok (r, v)
-set_by (Kill r extent) = Err BadLine
-set_by (Merge a b) = Err BadLine
-set_by (Increment r n) = Err BadLine
-set_by (Look look) = Err BadLine
-
-abbrev pub asked_by : Command → Result Setting Refusal
-asked_by (Access command) = set_by command
-asked_by (Lock command) = Err BadLine
-asked_by Start = Err BadLine
-asked_by Commit = Err BadLine
-asked_by Rollback = Err BadLine
-asked_by Restart = Err BadLine
-asked_by Level = Err BadLine
-asked_by Restarts = Err BadLine
-asked_by Halt = Err BadLine
+abbrev pub set_by : Command → Result Setting Refusal
+set_by (Access (Set r v)) = Ok (r, v)
+set_by command = Err BadLine
 
 abbrev pub asked_in : Result (ℕ × Command) Refusal → Result Setting Refusal
-asked_in (Ok step) = asked_by step.1
+asked_in (Ok step) = set_by step.1
 asked_in (Err refusal) = Err refusal
 
 -- what a line sets, or why it sets nothing: that of the script's line

@@ -58,15 +58,11 @@ direction_of s =
 
 -- an equals sign and a literal
 unfoldable pub set_value_at : List ℕ → Option (List ℕ × List ℕ)
-set_value_at text = do
-  rest ← after_byte byte.equals_sign text
-  literal_at rest
+set_value_at text = after_byte byte.equals_sign text >>= λ rest. literal_at rest
 
 -- an equals sign and a reference
 unfoldable pub source_at : List ℕ → Option (Reference × List ℕ)
-source_at text = do
-  rest ← after_byte byte.equals_sign text
-  place_at rest
+source_at text = after_byte byte.equals_sign text >>= λ rest. place_at rest
 
 -- a comma and a literal, or nothing
 unfoldable pub default_at : List ℕ → Option (Option (List ℕ) × List ℕ)
@@ -75,11 +71,7 @@ default_at text = if begins_with_byte byte.comma text then option_map (λ x. (So
 -- a comma and a direction, or nothing, which is forward
 unfoldable pub direction_at : List ℕ → Option (Direction × List ℕ)
 direction_at text =
-    if begins_with_byte byte.comma text
-    then (do
-      x ← literal_at (drop 1 text)
-      direction ← direction_of x.0
-      Some (direction, x.1))
+    if begins_with_byte byte.comma text then (literal_at (drop 1 text) >>= λ x. direction_of x.0 >>= λ direction. Some (direction, x.1))
     else Some (Forward, text)
 
 -- the string, where it is a canonic number
@@ -89,11 +81,7 @@ canonic_of s = if is_canonic s then Some s else None
 -- a comma and a number, or nothing, which is 1
 unfoldable pub step_at : List ℕ → Option (List ℕ × List ℕ)
 step_at text =
-    if begins_with_byte byte.comma text
-    then (do
-      x ← literal_at (drop 1 text)
-      number ← canonic_of x.0
-      Some (number, x.1))
+    if begins_with_byte byte.comma text then (literal_at (drop 1 text) >>= λ x. canonic_of x.0 >>= λ number. Some (number, x.1))
     else Some (codes "1", text)
 
 -- what a word wants after its reference r
@@ -109,9 +97,7 @@ tail_at data_words.Query r text = direction_at text >>= λ direction. Some (Look
 
 -- a reference, and what the word wants after it
 unfoldable pub placed_at : DataWord → List ℕ → Option (DataCommand × List ℕ)
-placed_at word text = do
-  place ← place_at text
-  tail_at word place.0 place.1
+placed_at word text = place_at text >>= λ place. tail_at word place.0 place.1
 
 -- the letters of ^$GLOBAL, in any case
 abbrev pub is_global : List ℕ → Bool
@@ -147,14 +133,8 @@ names_at text = do
 
 -- what follows "^$", which may stand behind $ORDER's word alone
 abbrev pub structured_at : DataWord → List ℕ → Option (List ℕ)
-structured_at data_words.Set text = None
-structured_at (data_words.Kill extent) text = None
-structured_at data_words.Merge text = None
-structured_at data_words.Increment text = None
-structured_at data_words.Data text = None
-structured_at data_words.Get text = None
 structured_at data_words.Order text = after_byte byte.caret text >>= after_byte byte.dollar
-structured_at data_words.Query text = None
+structured_at word text = None
 
 abbrev pub operands_by : Option (List ℕ) → DataWord → List ℕ → Option (DataCommand × List ℕ)
 operands_by None word text = placed_at word text
@@ -205,15 +185,11 @@ behind_function (words.Alone word) text = Some (command_of word, text)
 
 -- a word, and what the act wants
 unfoldable pub acts_at : List ℕ → Option (Command × List ℕ)
-acts_at text = do
-  word ← act_of (front_letters text)
-  behind_act word (past_letters text)
+acts_at text = act_of (front_letters text) >>= λ word. behind_act word (past_letters text)
 
 -- after '$': a word, and what the function wants
 unfoldable pub functions_at : List ℕ → Option (Command × List ℕ)
-functions_at text = do
-  word ← function_of (front_letters text)
-  behind_function word (past_letters text)
+functions_at text = function_of (front_letters text) >>= λ word. behind_function word (past_letters text)
 
 -- a command, whatever faults it has
 unfoldable pub command_at : List ℕ → Option (Command × List ℕ)
@@ -230,8 +206,7 @@ AreBehindAct (words.Alone word) text = ⊥
 -- a function's are behind a parenthesis
 abbrev pub AreBehindFunction : Word → List ℕ → Type 0
 AreBehindFunction (words.Access word) text = begins_with_byte byte.opening text ≡ true
-AreBehindFunction words.Lock text = ⊥
-AreBehindFunction (words.Alone word) text = ⊥
+AreBehindFunction word text = ⊥
 
 -- an act, or a function without its '$', is read so far
 unfoldable pub ActComesToOperands : List ℕ → Type 0
@@ -272,10 +247,4 @@ data_fault (Look look) = look_fault look
 abbrev pub command_fault : Command → Option Refusal
 command_fault (Access command) = data_fault command
 command_fault (Lock command) = lock_fault command
-command_fault Start = None
-command_fault Commit = None
-command_fault Rollback = None
-command_fault Restart = None
-command_fault Level = None
-command_fault Restarts = None
-command_fault Halt = None
+command_fault command = None

@@ -4,7 +4,7 @@ use Rattle.refusal.specs.declared.Refusal.{Refusal}
 use Rattle.refusal.specs.declared.Refusal.TheVariants.{NoTransaction, LevelTooDeep, TransactionTooLong, StampsUsedUp, OutOfMemory}
 use Rattle.collation.specs.Limits.{most_commands, most_levels}
 use Rattle.lock_name.specs.declared.lock.LockCommand.{LockCommand}
-use Rattle.lock_name.specs.declared.lock.LockCommand.TheVariants.{Release, Only, More, Fewer}
+use Rattle.lock_name.specs.declared.lock.LockCommand.TheVariants.{Release}
 use Rattle.collation.specs.Database.{Database}
 use Rattle.command.specs.declared.access.DataCommand.{DataCommand}
 use Rattle.command.specs.declared.request.Command.{Command}
@@ -59,9 +59,7 @@ reply_to_data command (Some t) units = if nat_lt (length t.exchanges) most_comma
 -- whether the names were had, where a LOCK has names
 abbrev pub told_had : LockCommand → Bool → Reply
 told_had Release had = Finished
-told_had (Only names) had = Had had
-told_had (More names) had = Had had
-told_had (Fewer names) had = Had had
+told_had command had = Had had
 
 abbrev pub reply_to_lock : ℕ → LockCommand → LockState → Reply
 reply_to_lock job command s = refused_or (lock_refusal job command s) (told_had command (lock_reply job command s))
@@ -117,34 +115,22 @@ replies_of (step ∷ steps) s = reply_of step.0 step.1 s ∷ replies_of steps (s
 abbrev pub early_of : Command → Option Transaction → Option Refusal
 early_of (Access command) None = early_refusal command
 early_of (Access command) (Some t) = if nat_lt (length t.exchanges) most_commands then early_refusal command else Some TransactionTooLong
-early_of (Lock command) t = None
-early_of Start None = None
 early_of Start (Some t) = if nat_lt t.level most_levels then None else Some LevelTooDeep
 early_of Commit None = Some NoTransaction
-early_of Commit (Some t) = None
 early_of Rollback None = Some NoTransaction
-early_of Rollback (Some t) = None
 early_of Restart None = Some NoTransaction
-early_of Restart (Some t) = None
-early_of Level t = None
-early_of Restarts t = None
-early_of Halt t = None
+early_of command t = None
 
 -- the command takes no memory: what only looks, a level within a transaction, and what undoes one that took no LOCK, or finds none
 abbrev pub takes_none : Command → Option Transaction → Bool
 takes_none (Access command) t = false
 takes_none (Lock command) t = false
 takes_none Start None = false
-takes_none Start (Some t) = true
-takes_none Commit None = true
 takes_none Commit (Some t) = nat_lt 1 t.level
-takes_none Rollback None = true
 takes_none Rollback (Some t) = not t.took_lock
-takes_none Restart None = true
 takes_none Restart (Some t) = not t.took_lock
-takes_none Level t = true
-takes_none Restarts t = true
 takes_none Halt t = false
+takes_none command t = true
 
 -- memory may be wanting: the command takes some, and no rule refuses it before
 pub record MayWantMemory (command : Command) (t : Option Transaction) : Type 0 where
@@ -158,6 +144,5 @@ IsReply job command reply s = (reply ≡ reply_of job command s) ⊎ ((reply ≡
 -- each step has such a reply at its place
 abbrev pub AreReplies : List (ℕ × Command) → List Reply → Machine → Type 0
 AreReplies [] [] s = ⊤
-AreReplies [] (reply ∷ replies) s = ⊥
-AreReplies (step ∷ steps) [] s = ⊥
 AreReplies (step ∷ steps) (reply ∷ replies) s = IsReply step.0 step.1 reply s × AreReplies steps replies (told step.0 step.1 reply s)
+AreReplies steps replies s = ⊥
