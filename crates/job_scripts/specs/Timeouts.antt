@@ -1,12 +1,19 @@
--- The timeout at the end of a line with a LOCK. Source: docs/FORMATS.md, "Lines". Read timeout_in.
-use Rattle.std.specs.Prelude.{ℕ, ◌+◌, ◌-◌, ◌*◌, Bool, nat_le, List, [], ◌∷◌, length, drop, Option, Some, None, slice_get, ◌&&◌, ◌==◌, if◌then◌else◌}
-use Rattle.std.specs.Option.{option_or}
+-- The timeout at the end of a line with a LOCK. Source: docs/FORMATS.md, "Lines". Read has_timeout and timeout_in.
+use Rattle.std.specs.Prelude.{ℕ, ◌+◌, ◌-◌, ◌*◌, Bool, false, nat_le, List, [], ◌∷◌, length, drop, Option, Some, None, slice_get, unwrap_or, ◌&&◌, ◌||◌, ◌==◌, if◌then◌else◌}
+use Rattle.std.specs.Option.{option_map, option_or}
 use Rattle.std.specs.List.{list_all}
 use Rattle.collation.specs.Bytes as byte
 use Rattle.m_text.specs.Reading.{begins_with_byte}
 use Rattle.m_text.specs.Literal.{front_digits, past_digits, number_from}
 use Rattle.script.specs.Commands.{is_blank}
-use Rattle.script.specs.Locking.{are_few}
+use Rattle.script.specs.Locking.{are_few, seconds_at}
+
+-- behind one of the line's colons stand seconds that blanks alone follow
+abbrev pub has_timeout : List ℕ → Bool
+has_timeout [] = false
+has_timeout (b ∷ bs) = (b == byte.colon && unwrap_or (option_map (list_all is_blank) (seconds_at bs)) false) || has_timeout bs
+
+-- ---- how long it is
 
 -- the value of a digit, 0 where there is none
 abbrev pub value_of : Option ℕ → ℕ

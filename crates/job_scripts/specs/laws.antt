@@ -1,2 +1,3 @@
 pub mod InFront
 pub mod Numbered
+pub mod Timed

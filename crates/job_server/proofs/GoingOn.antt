@@ -22,10 +22,10 @@ use Rattle.job_server.specs.declared.cursor.Line.{Line}
 use Rattle.job_server.specs.declared.fault.ServerFault.{ServerFault}
 use Rattle.job_scripts.specs.Groups.{Group}
 use Rattle.job_server.specs.Served.{IsReport, HasRunAs, IsReportAt}
-use Rattle.job_server.specs.Steps.{Past, SessionsSoFar, sessions_so_far, HasDoneSteps, IsNoStep, IsReplied, IsHad, IsShownBy, IsNoEnd, AreShown}
-use Rattle.job_server.specs.Telling.{IsNoCommit, EndsNone, IsDoneAs, Running, Serves, IsWithin, AreWithin, ServesWithin, Advances, AdvancesWithin, Reaches, ReachesWithin, Begins, WasOvertaken, IsBack}
+use Rattle.job_server.specs.Steps.{Past, SessionsSoFar, sessions_so_far, HasDoneSteps, IsNoStep, IsReplied, IsShownBy, IsNoEnd, AreShown}
+use Rattle.job_server.specs.Telling.{IsNoCommit, EndsNone, IsUnblocked, IsDoneAs, Running, Serves, IsWithin, AreWithin, ServesWithin, Advances, AdvancesWithin, Reaches, ReachesWithin, Begins, WasOvertaken, IsBack}
 use Rattle.job_server.proofs.Stepped.{halt_stepped}
-use Rattle.job_server.proofs.Stepping.{between_same, no_steps, none_done, shows_other, call_steps, line_shown, shown_behind, shown_tried, tried_to, asks_once, other_no_end, command_no_end, refused_no_end}
+use Rattle.job_server.proofs.Stepping.{had_untimed, between_same, no_steps, none_done, shows_other, call_steps, line_shown, shown_behind, shown_tried, tried_to, asks_once, other_no_end, command_no_end, refused_no_end}
 
 -- ---- steps
 
@@ -45,8 +45,8 @@ pub refused_goes : (line : List ℕ) (job : ℕ) (refusal : Refusal) (now : Sess
 refused_goes line job refusal now = shows_other IsNoStep (IsDoneAs line (Err refusal) (Refused refusal)) job now now (λ xs none. (refl, none)) (none_goes job now)
 
 -- a command is what was read
-pub asked_goes : (line : List ℕ) (job : ℕ) (command : Command) (reply : Reply) (old new : SessionsSoFar) → HasDoneSteps (IsReplied command reply) job old new → IsHad line reply → HasDoneSteps (IsDoneAs line (Ok command) reply) job old new
-asked_goes line job command reply old new h had = shows_other (IsReplied command reply) (IsDoneAs line (Ok command) reply) job old new (λ xs replied. (had, replied)) h
+pub asked_goes : (line : List ℕ) (job : ℕ) (command : Command) (reply : Reply) (old new : SessionsSoFar) → HasDoneSteps (IsReplied command reply) job old new → IsUnblocked line reply → HasDoneSteps (IsDoneAs line (Ok command) reply) job old new
+asked_goes line job command reply old new h had = shows_other (IsReplied command reply) (IsDoneAs line (Ok command) reply) job old new (λ xs replied. (had_untimed line reply had, replied)) h
 
 -- a HALT that is refused
 pub halt_refused : (job : ℕ) (p more : Past) (session later : Option Held) (begun after : Held) (refusal : Refusal) → more ≡ p → session ≡ Some begun → later ≡ Some after → IsBeginning after.seen begun.seen → after ≡ knowing after.seen begun → HasNoRoom refusal 1 (length after.seen)

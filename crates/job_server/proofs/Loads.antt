@@ -6,8 +6,10 @@ use Rattle.collation.specs.Reference.{Reference}
 use Rattle.command.specs.declared.access.Answer.{Answer}
 use Rattle.command.specs.declared.access.Answer.TheVariants.{Done}
 use Rattle.command.specs.declared.access.DataCommand.TheVariants.{Set}
-use Rattle.command.specs.declared.request.Command.TheVariants.{Access}
-use Rattle.command.specs.declared.request.Reply.TheVariants.{Answered}
+use Rattle.command.specs.declared.request.Command.{Command}
+use Rattle.command.specs.declared.request.Command.TheVariants.{Access, Halt}
+use Rattle.command.specs.declared.request.Reply.{Reply}
+use Rattle.command.specs.declared.request.Reply.TheVariants.{Answered, Finished}
 use Rattle.journal.specs.declared.unit.Unit.{Unit as JournalUnit}
 use Rattle.journal.specs.declared.unit.Unit.TheVariants.{Lone, End}
 use Rattle.journal.specs.Kept.{Claim}
@@ -98,11 +100,24 @@ sets_push (t ∷ ts) s (y ∷ ys) x are is = (are.0, sets_push ts s ys x are.1 i
 sets_then : (ss : List Setting) (s : Setting) (a b c : SessionsSoFar) → HasDoneSteps (AreSets ss) 1 a b → (x : Told) × ((x.command ≡ Access (Set s.0 s.1)) × (x.reply ≡ Answered Done)) × AreSteps 1 (x ∷ []) b c → HasDoneSteps (AreSets (ss ++ s ∷ [])) 1 a c
 sets_then ss s a b c h one = (h.0 ++ one.0 ∷ [], sets_push ss s h.0 one.0 h.1 one.1, steps_then 1 h.0 (one.0 ∷ []) a b c h.2 one.2)
 
+-- a step's command and reply
+abbrev what : Told → Command × Reply
+what x = (x.command, x.reply)
+
+abbrev set_what : Setting → Command × Reply
+set_what s = (Access (Set s.0 s.1), Answered Done)
+
+sets_then_halt : (ss : List Setting) (xs : List Told) (last : Told) → AreSets ss xs → (last.command ≡ Halt) × (last.reply ≡ Finished) → map what (xs ++ last ∷ []) ≡ map set_what ss ++ (Halt, Finished) ∷ []
+sets_then_halt [] [] last are is = λ i. (is.0 i, is.1 i) ∷ []
+sets_then_halt [] (x ∷ xs) last are is = absurd are
+sets_then_halt (s ∷ ss) [] last are is = absurd are
+sets_then_halt (s ∷ ss) (x ∷ xs) last are is = λ i. (are.0.0 i, are.0.1 i) ∷ sets_then_halt ss xs last are.1 is i
+
 load_steps : (ss : List Setting) (h : Held) (b : Book) (units : List JournalUnit) → IsBeginning units h.seen → b ≡ halted units h → HasDoneSteps (AreSets ss) 1 (none_since 0) (sessions_so_far (past 0 []) (Some h)) → HasDoneSteps (AreLoadSteps ss) 1 (none_since 0) (sessions_so_far (past 0 (b ∷ [])) None)
 load_steps ss h b units goes_on is sets =
     let end = halt_call 1 (past 0 []) units h goes_on in
     subst (λ (p : Book). HasDoneSteps (AreLoadSteps ss) 1 (none_since 0) (sessions_so_far (past 0 (p ∷ [])) None)) (sym is)
-    (sets.0 ++ end.0 ∷ [], (sets.0, end.0, refl, sets.1, end.1), steps_then 1 sets.0 (end.0 ∷ []) (none_since 0) (sessions_so_far (past 0 []) (Some h)) (sessions_so_far (past 0 (halted units h ∷ [])) None) sets.2 end.2)
+    (sets.0 ++ end.0 ∷ [], sets_then_halt ss sets.0 end.0 sets.1 end.1, steps_then 1 sets.0 (end.0 ∷ []) (none_since 0) (sessions_so_far (past 0 []) (Some h)) (sessions_so_far (past 0 (halted units h ∷ [])) None) sets.2 end.2)
 
 -- ---- the session
 

@@ -1,6 +1,6 @@
 -- Steps of a job, one behind the other, and how replies show them.
 use Rattle.std.proofs.Common.{◌≡◌, ◌≢◌, ◌⊎◌, inl, inr, ℕ, ◌≤◌, List, [], ◌∷◌, ◌++◌, length, get_or, true, false, refl, sym, ap, ◌∙◌, subst, arith, append_assoc, append-nil}
-use Rattle.std.specs.Prelude.{⊤, Bool, Option, Some, None, Result, Ok, Err}
+use Rattle.std.specs.Prelude.{⊤, Bool, Option, Some, None, is_some, Result, Ok, Err}
 use Rattle.std.specs.List.{All}
 use Rattle.std.proofs.lemmas.List.Elements.{All-nil, All-cons, All-append, All-same}
 use Rattle.refusal.specs.declared.Refusal.{Refusal}
@@ -23,8 +23,9 @@ use Rattle.shared_engine.specs.laws.Seen.{done_seen}
 use Rattle.job_scripts.specs.Blocks.{in_place, AreAsked, AreMusts, AreInFront}
 use Rattle.job_scripts.specs.Lines.{Asks}
 use Rattle.job_scripts.specs.Timeouts.{timeout_in}
+use Rattle.job_scripts.specs.laws.Timed.{timed_where}
 use Rattle.job_server.specs.Steps.{Past, and_book, SessionsSoFar, sessions_so_far, KnowsMore, IsDoneOnce, WasDoneBy, AreBefore, IsOver, IsBetweenIn, IsBetween, IsStepIn, AreSteps, HasDoneSteps, IsNoStep, IsStepWith, IsReplied, IsHad, IsShownBy, OneAsks, IsNoEnd, IsOfTry, EndWith, AreTries, AreShown, AreShownToEnd}
-use Rattle.job_server.specs.Telling.{AreWithin}
+use Rattle.job_server.specs.Telling.{IsUnblocked, AreWithin}
 use Rattle.job_server.proofs.Lasting.{no_restart}
 
 -- ---- between two steps
@@ -151,12 +152,20 @@ block_steps job p (command ∷ commands) (reply ∷ replies) units more old new 
     let rest = block_steps job p commands replies done.0 more middle new now done.3 in
     (first.0 ∷ rest.0, (first.1, rest.1), steps_then job (first.0 ∷ []) rest.0 (sessions_so_far p (Some old)) (sessions_so_far p (Some middle)) (sessions_so_far p (Some new)) first.2 rest.2)
 
+-- what is no number of milliseconds is no timeout
+none_timed : (o : Option ℕ) → is_some o ≡ false → o ≡ None
+none_timed None is = refl
+none_timed (Some n) is = absurd (cc is)
+
 -- a LOCK without a timeout has its names
+pub had_untimed : (line : List ℕ) (reply : Reply) → IsUnblocked line reply → IsHad line reply
+had_untimed line reply had none blocked = absurd (cc (sym (had (none_timed (timeout_in line) (sym (timed_where line) ∙ none))) ∙ ap (is_blocked true) blocked))
+
 had_where : (line : List ℕ) (must : Bool) (reply : Reply) → (timeout_in line ≡ None → must ≡ true) → is_blocked must reply ≡ false → IsHad line reply
-had_where line must reply timed had none = subst (λ (b : Bool). is_blocked b reply ≡ false) (timed none) had
+had_where line must reply untimed had = had_untimed line reply (λ none. subst (λ (b : Bool). is_blocked b reply ≡ false) (untimed none) had)
 
 -- no try
-no_tries : (job : ℕ) (all : List (List ℕ)) → AreTries job all []
+pub no_tries : (job : ℕ) (all : List (List ℕ)) → AreTries job all []
 no_tries job all = (All-nil (IsOfTry job all), tt)
 
 -- the lines that ask for the commands show them

@@ -1,7 +1,9 @@
 -- The listing that is loaded before the first job, and why jobs weren't served.
 -- Read claims_from, load_books, BeginsWith, then IsUnservedBy.
-use Rattle.std.specs.Prelude.{◌≡◌, ⊤, ℕ, ◌+◌, List, [], ◌∷◌, ◌++◌, length, take, None, Some, Result, Ok}
+use Rattle.std.specs.Prelude.{◌≡◌, ⊤, ℕ, ◌+◌, List, [], ◌∷◌, ◌++◌, map, length, take, None, Some, Result, Ok}
+use Rattle.command.specs.declared.request.Command.{Command}
 use Rattle.command.specs.declared.request.Command.TheVariants.{Access, Halt}
+use Rattle.command.specs.declared.request.Reply.{Reply}
 use Rattle.command.specs.declared.request.Reply.TheVariants.{Answered, Finished}
 use Rattle.command.specs.declared.access.DataCommand.TheVariants.{Set}
 use Rattle.command.specs.declared.access.Answer.TheVariants.{Done}
@@ -42,16 +44,9 @@ load_books ended (s ∷ ss) = load_book ended (s ∷ ss) ∷ []
 abbrev pub BeginsWith : List Setting → List JournalUnit → Type 0
 BeginsWith settings units = take (length settings) units ≡ units_of settings
 
--- the steps are a SET for each setting, which was done
-abbrev pub AreSets : List Setting → List Told → Type 0
-AreSets [] [] = ⊤
-AreSets [] (x ∷ xs) = ⊥
-AreSets (s ∷ ss) [] = ⊥
-AreSets (s ∷ ss) (x ∷ xs) = ((x.command ≡ Access (Set s.0 s.1)) × (x.reply ≡ Answered Done)) × AreSets ss xs
-
--- and then a HALT
+-- the steps are a SET for each setting, which was done, and then a HALT
 abbrev pub AreLoadSteps : List Setting → List Told → Type 0
-AreLoadSteps ss xs = (sets : List Told) × (last : Told) × (xs ≡ sets ++ last ∷ []) × AreSets ss sets × ((last.command ≡ Halt) × (last.reply ≡ Finished))
+AreLoadSteps ss xs = map {B = Command × Reply} (λ x. (x.command, x.reply)) xs ≡ map (λ s. (Access (Set s.0 s.1), Answered Done)) ss ++ (Halt, Finished) ∷ []
 
 -- what the load's session did, where anything is set
 abbrev pub HasRunLoad : List Setting → List Book → Type 0
@@ -84,6 +79,12 @@ IsOfNoLine load_faults.Memory = ⊤
 abbrev pub IsOfAnyLoad : Unserved → Type 0
 IsOfAnyLoad (Load fault) = IsOfNoLine fault
 IsOfAnyLoad (Jobs fault) = ⊤
+
+-- the steps are a SET for each setting, which was done
+abbrev pub AreSets : List Setting → List Told → Type 0
+AreSets [] [] = ⊤
+AreSets (s ∷ ss) (x ∷ xs) = ((x.command ≡ Access (Set s.0 s.1)) × (x.reply ≡ Answered Done)) × AreSets ss xs
+AreSets ss xs = ⊥
 
 -- each setting has its receipt, in order, at some number
 abbrev pub AreReceiptsOf : List Setting → List Claim → Type 0

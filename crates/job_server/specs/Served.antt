@@ -11,7 +11,7 @@ use Rattle.loading.specs.Settings.{Setting, settings_of}
 use Rattle.job_scripts.specs.Groups.{Group}
 use Rattle.job_scripts.specs.Reports.{Answers}
 use Rattle.job_server.specs.Loads.{BeginsWith, AreLoadSteps}
-use Rattle.job_server.specs.Steps.{AreShownToEnd, AreRefusedAlone, HasRunScript}
+use Rattle.job_server.specs.Steps.{AreShown, AreShownToEnd, HasRunScript}
 
 -- ---- one run of the exact machine
 
@@ -24,9 +24,10 @@ abbrev pub IsLoadedBy : List Setting → List Told → Type 0
 IsLoadedBy [] xs = xs ≡ []
 IsLoadedBy (s ∷ ss) xs = AreOfJob 1 xs × AreLoadSteps (s ∷ ss) xs
 
--- the steps are just those that these replies to a job's lines show; without a job there is none, and each line is refused
+-- the steps are just those that these replies to a job's lines show; without a job there is none: each line is refused, as one of job 0, whose no
+-- line is
 abbrev pub IsShownAs : Option ℕ → List (List ℕ) → List Reply → List Told → Type 0
-IsShownAs None lines replies xs = (xs ≡ []) × AreRefusedAlone lines replies
+IsShownAs None lines replies xs = (xs ≡ []) × AreShown 0 [] lines replies []
 IsShownAs (Some job) lines replies xs = AreOfJob job xs × AreShownToEnd job lines replies xs
 
 -- the report is of the script's job, with as many replies as there are lines
@@ -37,10 +38,9 @@ pub record IsReport (w : Group) (report : Answers) : Type 0 where
 -- each script has its report in its place, and the steps are just those that the reports show, one report's behind the other's
 abbrev pub AreShownAll : List Group → List Answers → List Told → Type 0
 AreShownAll [] [] xs = xs ≡ []
-AreShownAll [] (report ∷ reports) xs = ⊥
-AreShownAll (w ∷ ws) [] xs = ⊥
 AreShownAll (w ∷ ws) (report ∷ reports) xs =
     (own rest : List Told) × (xs ≡ own ++ rest) × IsReport w report × IsShownAs w.job w.lines report.replies own × AreShownAll ws reports rest
+AreShownAll ws reports xs = ⊥
 
 -- there is one run of the exact machine, of which the journal is the story; in it each job's steps are just those of the load, then those
 -- that its report shows, in order

@@ -1,25 +1,23 @@
 -- What a job's sessions did, step by step, and how a report shows it.
 -- Read HasStepped, IsStepIn, IsBetweenIn and AreSteps; then IsReplied, IsShownBy, AreTries, AreShown and AreShownToEnd.
-use Rattle.std.specs.Prelude.{◌≡◌, ◌≢◌, ◌⊎◌, ⊤, ℕ, ◌≤◌, true, false, List, [], ◌∷◌, ◌++◌, length, Option, None, Some, Ok}
+use Rattle.std.specs.Prelude.{◌≡◌, ◌≢◌, ◌⊎◌, ⊤, ℕ, ◌≤◌, false, List, [], ◌∷◌, ◌++◌, length, Option, None, Some}
 use Rattle.std.specs.List.{All}
 use Rattle.refusal.specs.declared.Refusal.{Refusal}
-use Rattle.refusal.specs.declared.Refusal.TheVariants.{BadJob}
 use Rattle.lock_name.specs.declared.lock.LockCommand.{LockCommand}
 use Rattle.command.specs.declared.request.Command.{Command}
 use Rattle.command.specs.declared.request.Command.TheVariants.{Lock as lock_command, Start, Commit, Rollback, Restart, Halt}
 use Rattle.command.specs.declared.request.Reply.{Reply}
 use Rattle.command.specs.declared.request.Reply.TheVariants.{Finished, Had, AtLevel, Committed, Restarted, Refused}
 use Rattle.journal.specs.declared.unit.Unit.{Unit as JournalUnit}
-use Rattle.script.specs.Line.{reading_of, IsRefusalOf}
 use Rattle.serial.specs.Interleaving.{Told}
 use Rattle.job_core.specs.Sessions.{idle}
 use Rattle.pin_board.specs.Slips.{IsBeginning}
 use Rattle.shared_engine.specs.Receipts.{Book}
 use Rattle.shared_engine.specs.Sessions.{Held, held, knowing, halted}
 use Rattle.shared_engine.specs.Steps.{IsStanding, WasDone, step_at}
-use Rattle.shared_engine.specs.Blocks.{is_blocked, IsNoRestart}
+use Rattle.shared_engine.specs.Blocks.{IsNoRestart}
 use Rattle.job_scripts.specs.Lines.{Asks, IsRefusedAs}
-use Rattle.job_scripts.specs.Timeouts.{timeout_in}
+use Rattle.job_scripts.specs.Timeouts.{has_timeout}
 
 -- ---- what was done
 
@@ -129,7 +127,7 @@ IsReplied command reply (x ∷ (y ∷ ys)) = IsStepWith command (Had false) x ×
 
 -- a line without a timeout is never replied that its LOCK was blocked
 abbrev pub IsHad : List ℕ → Reply → Type 0
-IsHad line reply = timeout_in line ≡ None → is_blocked true reply ≡ false
+IsHad line reply = has_timeout line ≡ false → reply ≢ Had false
 
 -- the line is refused so, and is no step; or asks for a command that was replied so, a TCOMMIT not that its transaction began anew
 abbrev pub IsShownBy : ℕ → List ℕ → Reply → List Told → Type 0
@@ -167,28 +165,17 @@ MayBeTried job line reply xs = (Asks job line Start × (reply ≡ AtLevel 1)) �
 -- the replies to lines show these steps, each line its own; behind an outermost TSTART there may be tries of the lines behind it, first of these, then of those left
 abbrev pub AreShown : ℕ → List (List ℕ) → List (List ℕ) → List Reply → List Told → Type 0
 AreShown job left [] [] xs = xs ≡ []
-AreShown job left [] (reply ∷ replies) xs = ⊥
-AreShown job left (line ∷ lines) [] xs = ⊥
 AreShown job left (line ∷ lines) (reply ∷ replies) xs =
     (own tries rest : List Told) × (xs ≡ own ++ (tries ++ rest)) × IsShownBy job line reply own × MayBeTried job line reply tries × AreTries job (lines ++ left) tries × AreShown job left lines replies rest
+AreShown job left lines replies xs = ⊥
 
 -- a job's last step is a HALT: its last line's, or one more at the end
 abbrev pub AreShownToEnd : ℕ → List (List ℕ) → List Reply → List Told → Type 0
 AreShownToEnd job lines replies xs =
     EndWith (IsStepWith Halt Finished) xs × (own last : List Told) × (xs ≡ own ++ last) × AreShown job [] lines replies own × ((last ≡ []) ⊎ IsReplied Halt Finished last)
 
--- a line that is no job's is refused: it can be read, and has a job of its own, or for its own fault
-abbrev pub IsRefusedAlone : List ℕ → Reply → Type 0
-IsRefusedAlone line reply = (refusal : Refusal) × (reply ≡ Refused refusal) × (IsRefusalOf line refusal ⊎ ((refusal ≡ BadJob) × (step : ℕ × Command) × (reading_of line ≡ Ok step)))
-
--- each is
-abbrev pub AreRefusedAlone : List (List ℕ) → List Reply → Type 0
-AreRefusedAlone [] [] = ⊤
-AreRefusedAlone [] (reply ∷ replies) = ⊥
-AreRefusedAlone (line ∷ lines) [] = ⊥
-AreRefusedAlone (line ∷ lines) (reply ∷ replies) = IsRefusedAlone line reply × AreRefusedAlone lines replies
-
--- a script's replies show all steps of the sessions that left these books, which began when there were so many units or more; without a job there is no session
+-- a script's replies show all steps of the sessions that left these books, which began when there were so many units or more; without a job there
+-- is no session, and its lines show no step, as those of job 0, whose no line is
 abbrev pub HasRunScript : ℕ → Option ℕ → List (List ℕ) → List Reply → List Book → Type 0
-HasRunScript since None lines replies books = (books ≡ []) × AreRefusedAlone lines replies
+HasRunScript since None lines replies books = (books ≡ []) × AreShown 0 [] lines replies []
 HasRunScript since (Some job) lines replies books = HasDoneSteps (AreShownToEnd job lines replies) job (none_since since) (sessions_so_far (past since books) None)

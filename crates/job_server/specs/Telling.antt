@@ -15,10 +15,11 @@ use Rattle.serial.specs.Machine.{told_had}
 use Rattle.pin_board.specs.Slips.{IsBeginning}
 use Rattle.shared_engine.specs.Sessions.{Held, begun_anew}
 use Rattle.shared_engine.specs.Engines.{gone_back}
-use Rattle.shared_engine.specs.Blocks.{said, HasItsNames, WasBlocked, WasRefused, HasCome}
+use Rattle.shared_engine.specs.Blocks.{said, is_blocked, HasItsNames, WasBlocked, WasRefused, HasCome}
 use Rattle.shared_engine.specs.declared.serial_run.SerialRun.{SerialRun}
 use Rattle.job_scripts.specs.Lines.{lent_lines, Asks}
-use Rattle.job_server.specs.Steps.{SessionsSoFar, none_since, WasDoneBy, HasDoneSteps, IsReplied, IsHad, IsNoEnd, AreTries, AreShown, AreRefusedAlone}
+use Rattle.job_scripts.specs.Timeouts.{timeout_in}
+use Rattle.job_server.specs.Steps.{SessionsSoFar, none_since, WasDoneBy, HasDoneSteps, IsReplied, IsHad, IsNoEnd, AreTries, AreShown}
 use Rattle.job_server.specs.declared.blocks.Tried.{Tried}
 use Rattle.job_server.specs.declared.blocks.Tried.TheVariants.{Within, Over, Back}
 use Rattle.job_server.specs.declared.cursor.Cursor.{Cursor}
@@ -40,6 +41,10 @@ abbrev pub EndsNone : Result Command Refusal → Type 0
 EndsNone (Ok command) = (command ≢ Commit) × (command ≢ Rollback) × (command ≢ Halt)
 EndsNone (Err refusal) = Unit {0}
 
+-- a line without so many milliseconds isn't replied that its LOCK was blocked
+abbrev pub IsUnblocked : List ℕ → Reply → Type 0
+IsUnblocked line reply = timeout_in line ≡ None → is_blocked true reply ≡ false
+
 -- the command that was read of a line was replied so, a TCOMMIT perhaps that its transaction began anew; or the line was refused, and that is no step
 abbrev pub IsDoneAs : List ℕ → Result Command Refusal → Reply → List Told → Type 0
 IsDoneAs line (Ok command) reply xs = IsHad line reply × IsReplied command reply xs
@@ -55,7 +60,7 @@ HasStopped job old new = ((new ≡ old) × (old.session ≡ None)) ⊎ (HasDoneS
 pub record Refuses (lines rest : List (List ℕ)) (old new : List Reply) : Type 0 where
   pub their_replies : List Reply
   pub replied : new ≡ old ++ their_replies
-  pub replies_are : (later : List Reply) → AreRefusedAlone rest later → AreRefusedAlone lines (their_replies ++ later)
+  pub replies_are : (later : List Reply) → AreShown 0 [] rest later [] → AreShown 0 [] lines (their_replies ++ later) []
 
 -- the replies so far, and the sessions
 pub record Running : Type 0 where

@@ -6,8 +6,8 @@ ghost use Rattle.job_scripts.specs.Lines.{IsReadFor};
 ghost use Rattle.job_scripts.specs.Timeouts.{timeout_in};
 ghost use Rattle.job_scripts.specs.Reports.{GoesOnFrom};
 ghost use Rattle.shared_engine.specs.Blocks.{is_blocked};
-ghost use Rattle.job_server.specs.Steps.{Past, past, sessions_so_far, IsBegunBehind, HasDoneSteps, IsNoStep, IsReplied, IsHad};
-ghost use Rattle.job_server.specs.Telling.{IsDoneAs, HasStopped, IsNoCommit, EndsNone, Advances, AdvancesWithin, not_begun};
+ghost use Rattle.job_server.specs.Steps.{Past, past, sessions_so_far, IsBegunBehind, HasDoneSteps, IsNoStep, IsReplied};
+ghost use Rattle.job_server.specs.Telling.{IsUnblocked, IsDoneAs, HasStopped, IsNoCommit, EndsNone, Advances, AdvancesWithin, not_begun};
 
 use crate::ServerFault;
 use crate::cursor::{Cursor, Line};
@@ -275,7 +275,7 @@ impl<'a, B: BoardName, R: Wait, G: Gate> Worker<'a, B, R, G> {
     ) -> Result<Reply, ServerFault>
         requires { command ≢ Command.Halt }
         ensures told { IfOk result (λ reply. (job : ℕ) (p : Past) → HasDoneSteps (IsReplied command reply) job (sessions_so_far p session.old) (sessions_so_far p session.new)) }
-        ensures had { IfOk result (λ reply. IsHad line.now reply) }
+        ensures had { IfOk result (λ reply. IsUnblocked line.now reply) }
     {
         match session {
             Some(session) => {
@@ -298,7 +298,7 @@ impl<'a, B: BoardName, R: Wait, G: Gate> Worker<'a, B, R, G> {
         line: &[u8],
     ) -> Result<Reply, ServerFault>
         ensures told { IfOk result (λ reply. (job : ℕ) → HasDoneSteps (IsReplied command reply) job sessions.old sessions.new) }
-        ensures had { IfOk result (λ reply. IsHad line.now reply) }
+        ensures had { IfOk result (λ reply. IsUnblocked line.now reply) }
     {
         if is_halt(&command) {
             drop(command);
@@ -316,7 +316,7 @@ impl<'a, B: BoardName, R: Wait, G: Gate> Worker<'a, B, R, G> {
         line: &[u8],
     ) -> Result<Reply, ServerFault>
         ensures told { IfOk result (λ reply. HasDoneSteps (IsReplied command reply) job sessions.old sessions.new) }
-        ensures had { IfOk result (λ reply. IsHad line.now reply) }
+        ensures had { IfOk result (λ reply. IsUnblocked line.now reply) }
     {
         match self.begin(job, sessions) {
             Ok(()) => self.reply_opened(sessions, command, line),

@@ -2,11 +2,11 @@
 ghost use Rattle.std.specs.Prelude.{◌≡◌, ◌∷◌, ℕ, List, [], None, Some, slice_get, IfOk, OnOk};
 ghost use Rattle.command.specs.declared.request.Command.{Command};
 ghost use Rattle.command.specs.declared.request.Reply.{Reply};
-ghost use Rattle.job_scripts.specs.Lines.{lent_lines, Asks};
+ghost use Rattle.job_scripts.specs.Lines.{lent_lines, Asks, IsRefusedAs};
 ghost use Rattle.std.proofs.Props.{props};
 ghost use Rattle.job_scripts.specs.Groups.{shown};
 ghost use Rattle.job_server.specs.Served.{IsReport, HasRunAs, IsReportAt};
-ghost use Rattle.job_server.specs.Steps.{IsRefusedAlone, HasRunScript};
+ghost use Rattle.job_server.specs.Steps.{HasRunScript};
 ghost use Rattle.script.specs.Line.{IsReading};
 ghost use Rattle.job_server.specs.Telling.{Refuses, Serves, Advances, not_begun};
 
@@ -114,9 +114,9 @@ fn ran_to_end<B: BoardName>(script: &Script<'_>, run: JobRun<B>) -> Result<Ran<B
 }
 
 // The refusal of a line in a script without a job: its own, or `BadJob` where it can be read.
-#[tactic(auto, using(crate::proofs::Refusing::none_read, crate::proofs::Refusing::none_fault))]
+#[tactic(auto, using(crate::proofs::Refusing::none_read))]
 fn refusal_of(read: Result<(Job, Command), LineFault>) -> Refusal
-    ensures { (line : List ℕ) → IsReading line read → IsRefusedAlone line (Reply.Refused result) }
+    ensures { (line : List ℕ) → IsReading line read → IsRefusedAs 0 line result }
 {
     match read {
         Ok((_, command)) => {
@@ -128,7 +128,6 @@ fn refusal_of(read: Result<(Job, Command), LineFault>) -> Refusal
 }
 
 // Refuses a line.
-#[tactic(auto, using(crate::proofs::Refusing::refuses_line))]
 fn refuse_line(
     alloc: Global,
     line: &[u8],

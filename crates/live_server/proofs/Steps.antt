@@ -22,6 +22,7 @@ use Rattle.script_run.specs.Replies.{IsAnswered, IsGathered, IsLost, IsLostAs}
 use Rattle.script_run.specs.laws.Good.{answered-good}
 use Rattle.script_run.specs.laws.Outcomes.{noted-none, noted-one, noted-then}
 use Rattle.script_run.specs.declared.answers.Script.{Script}
+use Rattle.job_scripts.specs.laws.Timed.{timed_where}
 use Rattle.live_server.specs.Live.{Act, answered, kept_off, over, all_left_by, is_same, lines_with, answers_in, answered_of, waiting_in, AreInTurn, open_by, AreLast, IsNext}
 use Rattle.live_server.specs.Desks.{DeskShown, desk_of, HasChangedAt, pushed, passed, tried, queued, first_of, first_tried, waiting_at}
 use Rattle.live_server.specs.Runs.{Follow, HaveHalted, RanAt, BrokeAt, Ran, Broke, Settled, Unsettled, Lacked, IsIdle, IsFair, IsDone, IsKeptOff, IsKept, HasCome, HasTried, IsLostFairly}
@@ -245,7 +246,7 @@ idle_waits false w h = refl
 
 idle_follow : (line : List ℕ) (reply : Reply) (s : Machine) (desks : List DeskShown) → IsFair line reply → IsAnswer s line reply → IsIdle (job_of_line line) desks → Follow (line ∷ []) (answered line reply ∷ []) s desks (λ who. queued who desks)
 idle_follow line reply s desks fair is idle = record {
-  each = ((is, fair), tt);
+  each = ((is, λ blocked. timed_where line ∙ fair blocked), tt);
   in_turn = λ who. ((λ same. inl (idle_wait who (job_of_line line) desks idle same)), tt);
   of_lines = λ who. idle_lines line reply (is_same who (job_of_line line)) (queued who desks) (λ same. idle_queue who (job_of_line line) desks idle same);
 }
@@ -328,7 +329,7 @@ first_turn line job old first (Some other) same =
 
 first_follow : (line : List ℕ) (reply : Reply) (s : Machine) (job : ℕ) (old : List DeskShown) → IsFair line reply → IsAnswer s line reply → job_of_line line ≡ Some job → first_of (desk_of old job).lines ≡ Some line → Follow [] (answered line reply ∷ []) s old (left_after job old)
 first_follow line reply s job old fair is owner first = record {
-  each = ((is, fair), tt);
+  each = ((is, λ blocked. timed_where line ∙ fair blocked), tt);
   in_turn = λ who. ((λ same. first_turn line job old first who (subst (λ (o : Option ℕ). is_same who o ≡ true) owner same)), tt);
   of_lines = λ who. subst (λ (o : Option ℕ). map (λ (a : Answer). a.0) (cond (is_same who o) ((line, reply) ∷ []) []) ++ left_after job old who ≡ queued who old ++ []) (sym owner) (first_lines line reply job old first who);
 }

@@ -1,6 +1,6 @@
 -- What a live run writes. Source: docs/PROGRAMS.md, "mjobs --live".
 -- Read Act, AreActs, AreInTurn, AreLast, then IsLive, Wrote and IsBegun; the contract of run_live cites these.
-use Rattle.std.specs.Prelude.{◌≡◌, ◌⊎◌, ⊤, ℕ, ◌==◌, Bool, true, false, List, [], ◌∷◌, ◌++◌, map, Option, None, Some, IsSome, if◌then◌else◌}
+use Rattle.std.specs.Prelude.{◌≡◌, ◌⊎◌, ⊤, ℕ, ◌==◌, Bool, true, false, List, [], ◌∷◌, ◌++◌, map, Option, None, Some, if◌then◌else◌}
 use Rattle.std.specs.List.{filter}
 use Rattle.std.specs.Io.KnownBytes.{Appends}
 use Rattle.command.specs.declared.request.Command.TheVariants.{Halt}
@@ -11,7 +11,7 @@ use Rattle.journal.specs.Story.{Machine, told}
 use Rattle.serial.specs.Answers.{told_by}
 use Rattle.serial.specs.Machine.{IsReply, run_of}
 use Rattle.script.specs.Line.{reading_of, job_of_line}
-use Rattle.job_scripts.specs.Timeouts.{timeout_in}
+use Rattle.job_scripts.specs.Timeouts.{has_timeout}
 use Rattle.script_run.specs.Lines.{lines_of}
 use Rattle.script_run.specs.OpenJobs.{is_open, open_after, without_job}
 use Rattle.script_run.specs.Output.{Answer, IsAnswer, accepted_job, ends_session, halts_of, text_of, outcome_of, ending}
@@ -39,7 +39,7 @@ all_left_by (act ∷ acts) s = all_left_by acts (left_by act s)
 
 -- a step of the exact machine: a line has its reply, which is 0 only of a LOCK with a timeout; a LOCK is kept off where its reply would be 0; a HALT is done
 abbrev pub IsAct : Machine → Act → Type 0
-IsAct s (answered line reply) = IsAnswer s line reply × (reply ≡ Had false → IsSome (timeout_in line))
+IsAct s (answered line reply) = IsAnswer s line reply × (reply ≡ Had false → has_timeout line ≡ true)
 IsAct s (kept_off line) = IsAnswer s line (Had false)
 IsAct s (over job) = IsReply job Halt Finished s
 
