@@ -347,7 +347,7 @@ pub Ran-first : (line : List ℕ) (job : ℕ) (a b : Live) (p : Option (List ℕ
 Ran-first line job a b p d change owner first = record {
   acts = answered line d.reply ∷ [];
   follow = record {
-    each = ((d.gathered.answer, d.fair), tt);
+    each = ((d.gathered.answer, λ blocked. timed_where line ∙ d.fair blocked), tt);
     in_turn = λ who. (first_follow line d.reply a.script.core.machine job a.desks d.fair d.gathered.answer owner first).in_turn who;
     of_lines = λ who. ap (λ (l : List (List ℕ)). answered_of who (answered line d.reply ∷ []) ++ l) (passed_lines job a.desks b.desks change who) ∙ (first_follow line d.reply a.script.core.machine job a.desks d.fair d.gathered.answer owner first).of_lines who;
   };
