@@ -128,7 +128,8 @@ fn a_journal_over_no_listing_begins_with_the_jobs(rt: HostRuntime) -> Result<(),
 }
 
 // Lines of job 1 that are refused for their keys; one of job 2 that is accepted behind such a one.
-const REFUSED: &[u8] = b"1 SET ^A(\"\")=1\n1 $GET(^A(\"\"))\n1 KILL ^A(\"\")\n2 SET ^A(\"\")=1\n2 $GET(^A)\n";
+const REFUSED: &[u8] =
+    b"1 SET ^A(\"\")=1\n1 $GET(^A(\"\"))\n1 KILL ^A(\"\")\n2 SET ^A(\"\")=1\n2 $GET(^A)\n";
 
 #[test]
 fn a_session_begins_with_an_accepted_line(rt: HostRuntime) -> Result<(), Fail> {

@@ -30,9 +30,10 @@ seconds_timed text = at (begins_with_byte byte.point (past_digits text))
   where
     behind : List ℕ
     behind = drop 1 (past_digits text)
+
     at : (point : Bool)
         → unwrap_or (option_map (list_all is_blank) (if point then (if nat_le (length (front_digits text)) 9 then (if are_few (front_digits behind) then Some (past_digits behind) else None) else None)
-            else (if are_few (front_digits text) then Some (past_digits text) else None))) false
+        else (if are_few (front_digits text) then Some (past_digits text) else None))) false
         ≡ is_some (if point then fraction_in (front_digits text) behind else whole_in (front_digits text) (past_digits text))
     at true = fraction (nat_le (length (front_digits text)) 9) (are_few (front_digits behind)) (past_digits behind) (number_from 0 (front_digits text) * 1000 + thousandths_in (front_digits behind))
     at false = whole (are_few (front_digits text)) (past_digits text) (number_from 0 (front_digits text) * 1000)
