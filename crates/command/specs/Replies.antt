@@ -5,11 +5,5 @@ use Rattle.command.specs.declared.request.Reply.TheVariants.{Answered, Finished,
 
 -- the reply is a refusal
 abbrev pub is_refused : Reply → Bool
-is_refused (Answered answer) = false
-is_refused Finished = false
-is_refused (Had had) = false
-is_refused (Count n) = false
-is_refused (AtLevel level) = false
-is_refused Committed = false
-is_refused (Restarted restarts) = false
 is_refused (Refused refusal) = true
+is_refused reply = false

@@ -1,9 +1,8 @@
 -- The number that a text begins with: signs, digits, a point and digits, as many as there are; 0 where there are no digits.
 -- Our own profile of M's numeric interpretation: an exponent isn't read. Read after_signs to front_fraction, then number_at.
-use Rattle.std.specs.Prelude.{ℕ, ◌+◌, Bool, false, not, ◌&&◌, ◌||◌, if◌then◌else◌, ◌==◌, List, [], ◌∷◌, ◌++◌, length, drop, ℤ, pos, neg_ℤ}
-use Rattle.std.specs.List.{before_first, position_or_len}
+use Rattle.std.specs.Prelude.{ℕ, ◌+◌, Bool, false, not, ◌&&◌, ◌||◌, if◌then◌else◌, ◌==◌, List, [], ◌∷◌, ◌++◌, length, ℤ, pos, neg_ℤ}
 use Rattle.canonic_number.specs.Number.{worth}
-use Rattle.canonic_number.specs.Parts.{is_no_digit}
+pub use Rattle.canonic_number.specs.Parts.{is_no_digit, front_digits, past_digits}
 
 -- what follows the signs in front, '+' (43) and '-' (45)
 abbrev pub after_signs : List ℕ → List ℕ
@@ -14,13 +13,6 @@ after_signs (b ∷ bs) = if b == 43 || b == 45 then after_signs bs else b ∷ bs
 abbrev pub is_negated : List ℕ → Bool
 is_negated [] = false
 is_negated (b ∷ bs) = if b == 45 then not (is_negated bs) else b == 43 && is_negated bs
-
--- the digits in front, and what follows them
-abbrev pub front_digits : List ℕ → List ℕ
-front_digits s = before_first is_no_digit s
-
-abbrev pub past_digits : List ℕ → List ℕ
-past_digits s = drop (position_or_len is_no_digit s) s
 
 -- the digits after a point in front
 abbrev pub point_digits : List ℕ → List ℕ

@@ -24,8 +24,6 @@ IsRuleOrMemory refusal rule = (rule ≡ Some refusal) ⊎ (refusal ≡ OutOfMemo
 
 -- the refusal by a rule that is looked at before anything takes memory
 abbrev pub early_refusal : DataCommand → Option Refusal
-early_refusal (Set r v) = None
-early_refusal (Kill r extent) = None
 early_refusal (Merge a b) = if overlap a b then Some MergeOverlap else None
-early_refusal (Increment r n) = None
 early_refusal (Look look) = look_refusal look
+early_refusal change = None

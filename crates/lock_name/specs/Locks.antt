@@ -76,10 +76,9 @@ is_blocked s job n = list_any (λ (j : ℕ × JobLocks). not (j.0 == job) && lis
 
 -- the resources that a LOCK asks for
 abbrev pub asked : LockCommand → List Resource
-asked Release = []
 asked (Only ns) = ns
 asked (More ns) = ns
-asked (Fewer ns) = []
+asked command = []
 
 -- what a job wants after a LOCK that has what it asks for
 abbrev pub want_had : LockCommand → Counts → Counts
@@ -90,10 +89,9 @@ want_had (Fewer ns) want = fewer_of ns want
 
 -- what it wants after one that hasn't: what was released stays released, and nothing is added
 abbrev pub want_kept : LockCommand → Counts → Counts
-want_kept Release want = finmap.empty
-want_kept (Only ns) want = finmap.empty
 want_kept (More ns) want = want
 want_kept (Fewer ns) want = fewer_of ns want
+want_kept command want = finmap.empty
 
 -- a LOCK has what it asks for, all or none: no resource is blocked
 abbrev pub lock_reply : ℕ → LockCommand → LockState → Bool

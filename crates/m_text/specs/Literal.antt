@@ -6,6 +6,7 @@ use Rattle.std.specs.Char.{is_ascii_digit, is_ascii_alphabetic, to_ascii_upperca
 use Rattle.collation.specs.Bytes as byte
 use Rattle.canonic_number.specs.Number.{is_negative, magnitude}
 use Rattle.canonic_number.specs.Literal.{is_numeric, canonic_of}
+pub use Rattle.canonic_number.specs.Parts.{is_no_digit, front_digits, past_digits}
 use Rattle.m_text.specs.Reading.{with_front, begins_with_byte, parted_at, then_closing}
 
 abbrev pub is_quote : ℕ → Bool
@@ -19,17 +20,6 @@ quoted_at (b ∷ c ∷ bs) =
     if b == byte.quote
     then (if c == byte.quote then with_front (byte.quote ∷ []) (quoted_at bs) else Some ([], c ∷ bs))
     else with_front (b ∷ []) (quoted_at (c ∷ bs))
-
--- no digit
-abbrev pub is_no_digit : ℕ → Bool
-is_no_digit b = not (is_ascii_digit b)
-
--- the digits at the front, and what follows them
-abbrev pub front_digits : List ℕ → List ℕ
-front_digits text = before_first is_no_digit text
-
-abbrev pub past_digits : List ℕ → List ℕ
-past_digits text = drop (position_or_len is_no_digit text) text
 
 -- the number of digits that follow those of n
 abbrev pub number_from : ℕ → List ℕ → ℕ
