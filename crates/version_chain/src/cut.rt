@@ -128,7 +128,8 @@ fn is_newer<V>(line: &Line<V>, stamp: u64) -> bool
 
 /// Puts a version in front, and drops what a cut drops. A version that isn't after the horizon hides all others, so that
 /// these go and none takes a cell. Where the newest one so far is after `since`, it is known that no older one has to go, and
-/// none is looked at but the first, whose cell keeps the stamp. Where there is none so far, nothing has to go either.
+/// none is looked at but the first, whose cell keeps the stamp. Where there is none so far, nothing has to go either. Else the
+/// cut comes first: the cell that it frees is the one that is taken.
 pub(crate) fn push_and_cut<V: Drop>(
     pool: &mut Pool<Version<V>>,
     line: Line<V>,
@@ -153,11 +154,9 @@ pub(crate) fn push_and_cut<V: Drop>(
             Some(value) => Some(Held::Value(stamp, value)),
         };
     }
-    let tidy = is_newer(&line, since);
-    let pushed = push(pool, line, stamp, value);
-    if tidy {
-        return pushed;
+    if is_newer(&line, since) {
+        return push(pool, line, stamp, value);
     }
-    let (left, _count) = cut(pool, pushed, horizon);
-    left
+    let (left, _count) = cut(pool, line, horizon);
+    push(pool, left, stamp, value)
 }
