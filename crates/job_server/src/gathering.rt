@@ -19,7 +19,7 @@ use std::alloc::Global;
 use std::mem;
 
 // How many lines are done under one hold of the engine's lock, at most: alone, and shared with other readers.
-const WRITES_PER_HOLD: usize = 64;
+const WRITES_PER_HOLD: usize = 256;
 
 const READS_PER_HOLD: usize = 16;
 

@@ -38,17 +38,20 @@ impl Turns {
         self.note_taken();
         let before = self.writes / WRITES_PER_TURN;
         self.writes = self.writes.wrapping_add(count);
-        if self.writes / WRITES_PER_TURN != before {
-            self.next = self.next_with_one_more();
+        let after = self.writes / WRITES_PER_TURN;
+        if after != before {
+            self.next = self.next_with(after.wrapping_sub(before) as usize);
         }
     }
 
-    // The turn that is due where one more falls due.
-    fn next_with_one_more(&self) -> Turn {
-        match self.next {
-            Turn::Due(keys) => Turn::Due(keys.saturating_add(self.keys).min(MOST_KEYS_AT_ONCE)),
-            Turn::NotDue | Turn::Taken(_) => Turn::Due(self.keys),
-        }
+    // The turn that is due where so many more fall due.
+    fn next_with(&self, more: usize) -> Turn {
+        let due = match self.next {
+            Turn::Due(keys) => keys,
+            Turn::NotDue | Turn::Taken(_) => 0,
+        };
+        let keys = due.saturating_add(self.keys.saturating_mul(more));
+        Turn::Due(keys.min(MOST_KEYS_AT_ONCE))
     }
 
     // Takes in a turn that was taken: after one that found nothing the next looks at half as many keys, else at twice

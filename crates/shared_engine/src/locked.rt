@@ -42,7 +42,6 @@ pub enum Ended {
 /// (`IsLocked`), and leaves it so.
 #[derive(Drop)]
 pub struct Locked {
-    // What only a writer looks at comes first: it lies beside the lock's own word, which each reader changes.
     pub(crate) seats: Seats,
     pub(crate) horizon: u64,
     pub(crate) opened: u64,
@@ -171,38 +170,6 @@ impl Locked {
     /// Refusals, after which nothing has changed but that the session has seen the whole journal: those of `Core::lone`;
     /// and `OutOfMemory` for the receipt, which hides no rule that is looked at before memory is asked for.
     pub fn lone(
-        &mut self,
-        board: &Board,
-        desk: &mut Lifted,
-        session: &mut InnerSession,
-        command: DataCommand,
-    ) -> Result<Answer, Refusal>
-        requires own { (desk.old.table ≡ board.now.table) × (session.old.table ≡ board.now.table) }
-        requires stands { IsLocked self.old.core desk.old self.old.seats self.old.horizon self.old.opened }
-        requires level { session.old.held.state.level ≡ 0 }
-        ensures table { (desk.new.table ≡ desk.old.table) × (session.new.table ≡ session.old.table) }
-        ensures stands { IsLocked self.new.core desk.new self.new.seats self.new.horizon self.new.opened }
-        ensures answer { IfOk result (λ answer. answer ≡ data_reply command (after self.old.core.units initial).map) }
-        ensures accepted { OnOk result (data_refusal command (after self.old.core.units initial).map ≡ None) }
-        ensures units { IfOk result (λ answer. self.new.core.units ≡ self.old.core.units ++ Lone session.old.held.state.work.job command answer ∷ []) }
-        ensures receipt { IfOk result (λ answer. session.new.held ≡ and_receipt self.old.core.units (Lone session.old.held.state.work.job command answer) session.old.held) }
-        ensures goes_on { IsBeginning self.old.core.units session.old.held.seen }
-        ensures refused { OnErr result ((self.new.core.units ≡ self.old.core.units) × (session.new.held ≡ knowing self.old.core.units session.old.held)) }
-        ensures early { (refusal : Refusal) → early_refusal command ≡ Some refusal → IsErrOf result refusal }
-        ensures cause { IfErr result (λ refusal. IsCauseOf refusal command (after self.old.core.units initial).map (length self.old.core.units)) }
-        ensures others { (desk.new.knows.given ≡ desk.old.knows.given) × (self.new.seats ≡ self.old.seats) }
-    {
-        match command {
-            DataCommand::Set(key, mut value) => {
-                self.set_lone(board, desk, session, &key, &mut value)?;
-                Ok(Answer::Done)
-            }
-            command => self.lone_any(board, desk, session, command),
-        }
-    }
-
-    // The same, by the way that all commands go.
-    fn lone_any(
         &mut self,
         board: &Board,
         desk: &mut Lifted,

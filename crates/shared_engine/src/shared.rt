@@ -471,6 +471,7 @@ impl<B: BoardName> Shared<B> {
     {
         let Shared { board, lock } = self;
         let Under {
+            _apart: _,
             locked,
             desk,
             of: _,

@@ -17,6 +17,8 @@ use std::sync::{RwLockReadGuard, RwLockWriteGuard, Wait};
 /// What lies under the lock: the desk, at rest, goes with the rest. All of it is of this board.
 #[derive(Drop)]
 pub(crate) struct Under<B: BoardName> {
+    // Keeps the lock's own word, which each try of a waiting thread takes away, out of the cache lines of the rest.
+    pub(crate) _apart: [u64; 15],
     pub(crate) locked: Locked,
     pub(crate) desk: Desk,
     pub(crate) of: PhantomData<B>,
@@ -31,6 +33,7 @@ impl<B: BoardName> Under<B> {
         requires new { (desk.knows.log ≡ []) × ((desk.knows.given ≡ 0) × ((desk.knows.dealt ≡ 0) × (desk.knows.seats ≡ 4096))) }
     {
         Under {
+            _apart: [0; 15],
             locked: Locked::new(alloc),
             desk,
             of: PhantomData,
