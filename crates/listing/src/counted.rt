@@ -1,5 +1,5 @@
 //! A reader or writer whose failed calls are counted.
-ghost use Rattle.std.specs.Prelude.{◌≡◌, ◌+◌, ◌≤◌, ◌<◌, ◌^◌, ◌-◌, [], length, take, IfOk, OnOk, OnErr};
+ghost use Rattle.std.specs.Prelude.{◌≡◌, ◌+◌, ◌≤◌, ◌<◌, ◌^◌, ◌-◌, ◌⊎◌, [], length, take, slice_index_or, IfOk, OnOk, OnErr};
 ghost use Rattle.std.specs.Io.KnownBytes.{Appends, Consumes, IsAtEnd, Keeps};
 ghost use Rattle.listing.specs.Bytes.{WritesBeginning, WritesFront, IsOneMore};
 
@@ -8,6 +8,9 @@ use thiserror::Error;
 
 /// How many bytes are gathered before they are written.
 pub const GATHERED_BYTES: usize = 16384;
+
+// How many bytes a pipe takes whole or not at all: a program that is stopped meanwhile has then cut no line of them.
+const PIECE_BYTES: usize = 4096;
 
 /// A reader or writer, and how many of its calls failed.
 #[derive(Drop)]
@@ -57,6 +60,24 @@ impl<T> Counted<T> {
     }
 }
 
+// How many bytes of a text go to the writer at once: whole lines where its first one fits.
+fn piece_len(text: &[u8]) -> usize
+    requires { 0 < length text.now }
+    ensures some { (0 < result) × (result ≤ length text.now) }
+    ensures line { (result ≡ length text.now) ⊎ ((slice_index_or text.now (result - 1) 0 ≡ 10) ⊎ (result ≡ PIECE_BYTES)) }
+{
+    if text.len() <= PIECE_BYTES {
+        return text.len();
+    }
+    for cut in 0..PIECE_BYTES {
+        let end = PIECE_BYTES - cut;
+        if text[end - 1] == b'\n' {
+            return end;
+        }
+    }
+    PIECE_BYTES
+}
+
 impl<W: Write> Counted<W> {
     // One write of some bytes of a text that isn't empty.
     fn write_some(&mut self, text: &[u8]) -> Result<usize, WriteFault>
@@ -67,7 +88,8 @@ impl<W: Write> Counted<W> {
         ensures kept { OnOk result (self.new.failures ≡ self.old.failures) }
         ensures counted { OnErr result (IsOneMore self.old.failures self.new.failures) }
     {
-        match self.inner.write(text) {
+        let piece = &text[..piece_len(text)];
+        match self.inner.write(piece) {
             Ok(n) if n > 0 => Ok(n),
             _ => {
                 self.count_failure();
