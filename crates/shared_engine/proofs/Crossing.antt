@@ -127,12 +127,12 @@ locked_sync = struct_sync (shape Locked.the_type) (seats.the_sync, (search senda
 
 under_send : (B : RattleType) (g : BoardGhosts B.Denot) → IsSend (Under.the_row B g)
 under_send B g =
-    let c = struct_send (shape (Under.the_type B g)) (locked_send, (desk.the_send, (search sendable, tt))) in
+    let c = struct_send (shape (Under.the_type B g)) (search sendable, (locked_send, (desk.the_send, (search sendable, tt)))) in
     record { owned = λ d vs. c.owned ((Under.the_type B g).to d) vs; leaving = λ k d w. c.leaving k ((Under.the_type B g).to d) w }
 
 under_sync : (B : RattleType) (g : BoardGhosts B.Denot) → IsSync (Under.the_row B g)
 under_sync B g =
-    let c = struct_sync (shape (Under.the_type B g)) (locked_sync, (desk.the_sync, (search sendable, tt))) in
+    let c = struct_sync (shape (Under.the_type B g)) (search sendable, (locked_sync, (desk.the_sync, (search sendable, tt)))) in
     record { shared = λ d b o κ. c.shared ((Under.the_type B g).to d) b o κ }
 
 pub shared_sync : (B : RattleType) (g : BoardGhosts B.Denot) → IsSync (Shared.the_row B g)
