@@ -1,2 +1,3 @@
 pub mod Gathered
 pub mod Reading
+pub mod Pieces

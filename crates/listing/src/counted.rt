@@ -3,6 +3,7 @@ ghost use Rattle.std.specs.Prelude.{◌≡◌, ◌+◌, ◌≤◌, ◌<◌, ◌^
 ghost use Rattle.std.specs.Io.KnownBytes.{Appends, Consumes, IsAtEnd, Keeps};
 ghost use Rattle.listing.specs.Bytes.{WritesBeginning, WritesFront, IsOneMore};
 
+use bstr::ByteSlice;
 use std::io::{Read, Write};
 use thiserror::Error;
 
@@ -69,13 +70,10 @@ fn piece_len(text: &[u8]) -> usize
     if text.len() <= PIECE_BYTES {
         return text.len();
     }
-    for cut in 0..PIECE_BYTES {
-        let end = PIECE_BYTES - cut;
-        if text[end - 1] == b'\n' {
-            return end;
-        }
+    match (&text[..PIECE_BYTES]).rfind_byte(b'\n') {
+        Some(end) => end + 1,
+        None => PIECE_BYTES,
     }
-    PIECE_BYTES
 }
 
 impl<W: Write> Counted<W> {
