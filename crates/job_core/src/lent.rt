@@ -35,6 +35,7 @@ use version_store::KeyedStore;
 ///
 /// Refusals: `StampsUsedUp`, where the journal is full; `OutOfMemory`. They leave database, versions, cut and journal
 /// as they were; the value may be gone.
+#[inline(always)]
 pub(crate) fn set_lent(
     alloc: Global,
     store: &mut KeyedStore,
