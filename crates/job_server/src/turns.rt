@@ -4,13 +4,12 @@ use shared_engine::Turn;
 // After how many lines that write there is a turn.
 const WRITES_PER_TURN: u64 = 64;
 
-// At how many keys a turn looks, at most and at least.
-const MOST_KEYS: usize = 64;
+// At how many keys a turn looks, at least: at more than come with so many lines, or else it would stay among those that
+// are in use, and never get round to those that were killed behind it.
+const FEWEST_KEYS: usize = 72;
 
-const FEWEST_KEYS: usize = 8;
-
-// The same of one in place of several that fell due before a hold came, as in a long transaction.
-const MOST_KEYS_AT_ONCE: usize = 1024;
+// The same at most, also in place of several turns that fell due before a hold came, as in a long transaction.
+const MOST_KEYS: usize = 65_536;
 
 /// The turns of one worker.
 #[derive(Drop)]
@@ -28,7 +27,7 @@ impl Turns {
     pub(crate) fn new() -> Turns {
         Turns {
             writes: 0,
-            keys: MOST_KEYS,
+            keys: FEWEST_KEYS,
             next: Turn::NotDue,
         }
     }
@@ -51,20 +50,20 @@ impl Turns {
             Turn::NotDue | Turn::Taken(_) => 0,
         };
         let keys = due.saturating_add(self.keys.saturating_mul(more));
-        Turn::Due(keys.min(MOST_KEYS_AT_ONCE))
+        Turn::Due(keys.min(MOST_KEYS))
     }
 
-    // Takes in a turn that was taken: after one that found nothing the next looks at half as many keys, else at twice
-    // as many.
+    // Takes in a turn that was taken: after one that took out most of the keys at which it looked the next looks at twice
+    // as many, else at half as many.
     fn note_taken(&mut self) {
         let Turn::Taken(progress) = self.next else {
             return;
         };
         self.next = Turn::NotDue;
-        self.keys = if progress.dropped == 0 {
-            (self.keys / 2).max(FEWEST_KEYS)
-        } else {
+        self.keys = if progress.removed > progress.visited / 2 {
             self.keys.saturating_mul(2).min(MOST_KEYS)
+        } else {
+            (self.keys / 2).max(FEWEST_KEYS)
         };
     }
 }
