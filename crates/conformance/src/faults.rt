@@ -254,13 +254,11 @@ fn largest_write(alloc: Global) -> Result<usize, Fail> {
     Ok(largest_of(alloc, &script))
 }
 
+// A pipe takes such a piece whole or not at all.
 #[test]
-fn replies_are_written_before_the_buffer_grows(rt: HostRuntime) -> Result<(), Fail> {
+fn output_goes_in_pieces(rt: HostRuntime) -> Result<(), Fail> {
     let largest = largest_write(rt.alloc())?;
-    assert!(rt;
-        largest > 16384 && largest < 16384 + 32800,
-        "a write of {largest}"
-    );
+    assert!(rt; largest == 4096, "a write of {largest}");
     Ok(())
 }
 
