@@ -1,6 +1,6 @@
 -- One reference taken out alone, since nothing placed is under it.
 use Rattle.std.proofs.Common.{◌≡◌, ℕ, ◌+◌, ◌≤◌, List, [], ◌∷◌, ◌++◌, refl, sym, ap, ◌∙◌, subst}
-use Rattle.std.specs.Prelude.{Bool, true, false, not, cond, ◌&&◌, Option, Some, None}
+use Rattle.std.specs.Prelude.{Bool, true, false, not, cond, ◌&&◌, Some, None}
 use Rattle.std.specs.List.{filter}
 use Rattle.std.specs.Ordering.{is_eq, is_lt, eq_by_cmp, ordering_reverse}
 use Rattle.std.specs.declared.cmp.Ordering.{Ordering}
@@ -9,8 +9,7 @@ use Rattle.std.specs.Cmp.{first_so, second_so, eq_by_cmp_equiv}
 use Rattle.std.specs.FinMap.{find, is_sorted, retain_keys}
 use Rattle.std.specs.FinMap.Entries.{below_all, find-where_key}
 use Rattle.collation.specs.Reference.{Reference}
-use Rattle.collation.specs.Order.{ref_cmp, ref_eq}
-use Rattle.collation.specs.Database.{is_under}
+use Rattle.collation.specs.Order.{ref_cmp}
 use Rattle.collation.specs.Levels.{is_before}
 use Rattle.collation.specs.laws.Order.{ref_cmp_total, ref_cmp-IsAntisymmetric, ref_ties, is_less, is_equal}
 use Rattle.globals.specs.laws.Cuts.{under_between}
@@ -21,7 +20,7 @@ use Rattle.version_store.specs.declared.kill.Placed.TheVariants.{Nothing, Itself
 use Rattle.version_store.specs.Versions.{cells_in}
 use Rattle.version_store.specs.Tied.{versions_in, rows, IsTied}
 use Rattle.version_store.proofs.TiedLemmas.{State, Pairs}
-use Rattle.version_store.proofs.KillLemmas.{IsClosing, stays, parted, closing_begun, closing_on, closed_tied, closed_versions, closed_told, closed_cells}
+use Rattle.version_store.proofs.KillLemmas.{IsClosing, stays, closing_begun, closing_on, closed_tied, closed_versions, closed_told, closed_cells}
 
 each_map : {A : Type 0} (P Q : A → Type 0) → ((x : A) → P x → Q x) → (xs : List A) → Each P xs → Each Q xs
 each_map P Q f [] a = tt

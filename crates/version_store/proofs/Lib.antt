@@ -4,6 +4,7 @@ pub mod CutLemmas
 pub mod DropLemmas
 pub mod KillLemmas
 pub mod NewestLemmas
+pub mod NotedLemmas
 pub mod PlaceLemmas
 pub mod RangeLemmas
 pub mod RowLemmas

@@ -107,6 +107,12 @@ tied_back c d e ps now id tied vacant opening closing =
           omega (arith, one, none, first, second, was, meanwhile, before);
     }
 
+pub versions_back : (c d e : State) (ps : Pairs) (now id : ℕ) → IsTied ps c now → chain_at c id ≡ None → Updates c d id (Some []) → Updates d e id None → versions_in e ps ≡ versions_in c ps
+versions_back c d e ps now id tied vacant opening closing = same_get _ _ (λ q.
+    get_in e ps q tied.sorted
+    ∙ map_same c e (find ref_cmp q ps) (λ i at. let other = not_named c ps now id q i tied vacant at in closing.others i other ∙ opening.others i other)
+    ∙ sym (get_in c ps q tied.sorted))
+
 -- ---- one more key
 
 pub versions_put : (c d : State) (ps : Pairs) (now id : ℕ) (k : Reference) → IsTied ps c now → chain_at c id ≡ None → Updates c d id (Some []) → versions_in d (put ref_cmp k id ps) ≡ finmap.insert (versions_in c ps) k []

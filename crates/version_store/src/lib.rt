@@ -8,7 +8,8 @@
 //! (1) the tree's keys rise, and each key's id is open;
 //! (2) no id has two keys, and as many ids are open as there are keys;
 //! (3) no version is after the newest stamp, none is there where that is 0, and the stamps of a chain fall;
-//! (4) the cut isn't after the newest stamp.
+//! (4) the cut isn't after the newest stamp;
+//! (5) no version of a reference is after both the cut and what is noted of its writes (`AreNoted` of `specs/Noted.antt`).
 //!
 //! With `^A` at 4 "x" and 2 absent, and `^B` at 3 "y": content at 2 is empty, at 3 `^B`, at 4 both.
 //!
@@ -29,6 +30,7 @@ mod kill;
 mod near;
 mod place;
 mod range;
+mod recent;
 mod seek;
 mod set;
 mod short;

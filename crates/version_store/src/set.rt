@@ -24,6 +24,7 @@ impl KeyedStore {
     ) -> Option<Trail>
         requires stamp { self.old.present < stamp }
         requires cut { cut ≤ stamp }
+        requires raised { self.old.cut ≤ cut }
         requires reserved { 0 < self.old.spare }
         ensures set { MatchOption result (IsSetAt stamp cut (key.now, Some value.old) self.old self.new)
             (λ _. (value.new ≡ value.old) × (finmap.get self.old.versions key.now ≡ None) × (self.new ≡ self.old)) }
@@ -37,6 +38,7 @@ impl KeyedStore {
                 let id = *id;
                 self.present = stamp;
                 self.cut = cut;
+                self.recent.note(key, stamp, cut);
                 let value = mem::replace(value, Text::new(alloc));
                 self.chains.push_and_cut(id, stamp, Some(value), cut);
                 None
@@ -58,6 +60,7 @@ impl KeyedStore {
     ) -> Result<(), AllocError>
         requires stamp { self.old.present < stamp }
         requires cut { cut ≤ stamp }
+        requires raised { self.old.cut ≤ cut }
         requires none { finmap.get self.old.versions key ≡ None }
         ensures ok { OnOk result (IsSetAt stamp cut (key, Some value) self.old self.new) }
         ensures spare { self.old.spare ≤ self.new.spare + 1 }
@@ -72,6 +75,7 @@ impl KeyedStore {
                 return Err(error);
             }
         };
+        self.recent.note(&key, stamp, cut);
         match self.tree.insert_by(alloc, key, id, trail) {
             Ok(_) => {
                 self.present = stamp;
@@ -101,6 +105,7 @@ impl KeyedStore {
     ) -> Result<(), AllocError>
         requires stamp { self.old.present < stamp }
         requires cut { cut ≤ stamp }
+        requires raised { self.old.cut ≤ cut }
         requires none { finmap.get self.old.versions key.now ≡ None }
         ensures ok { OnOk result (IsSetAt stamp cut (key.now, Some value.old) self.old self.new) }
         ensures taken { OnOk result (value.new ≡ []) }
@@ -124,6 +129,7 @@ impl KeyedStore {
     ) -> Result<(), AllocError>
         requires stamp { self.old.present < stamp }
         requires cut { cut ≤ stamp }
+        requires raised { self.old.cut ≤ cut }
         ensures ok { OnOk result (IsSetAt stamp cut (key.now, Some value.old) self.old self.new) }
         ensures taken { OnOk result (value.new ≡ []) }
         ensures err { OnErr result (self.new ≡ record self.old { spare = self.new.spare }) }

@@ -1,5 +1,5 @@
 //! The store: what it holds, its stamps, and its content at a stamp.
-ghost use Rattle.std.specs.Prelude.{◌≡◌, ℕ, ◌-◌, ◌^◌, ◌<◌, ◌≤◌, suc, min, Some, None, IfOk, IfErr, OnOk, ◌⊎◌};
+ghost use Rattle.std.specs.Prelude.{◌≡◌, ℕ, ◌-◌, ◌^◌, ◌<◌, ◌≤◌, suc, min, false, Some, None, IfOk, IfErr, OnOk, ◌⊎◌};
 ghost use Rattle.std.specs.Option.{option_copied};
 ghost use Rattle.std.specs.FinMap as finmap;
 ghost use Rattle.refusal.specs.declared.Refusal.{Refusal};
@@ -9,6 +9,7 @@ ghost use Rattle.version_store.specs.Versions.{content_at, content_now, versions
 ghost use Rattle.version_store.specs.Tied.{versions_in, rows, AreOpen, IsTied};
 
 use crate::near::Near;
+use crate::recent::Recent;
 use crate::snapshot::Snapshot;
 use btree::Trail;
 use collation::Text;
@@ -28,11 +29,13 @@ pub struct KeyedStore {
     pub(crate) cut: u64,
     pub(crate) mark: Option<Key>,
     pub(crate) near: Near,
+    pub(crate) recent: Recent,
 }
 
 impl Model for KeyedStore {
     ghost use Rattle.std.specs.Prelude.{◌≤◌};
     ghost use Rattle.version_store.specs.Versions.{Stored, stored_code};
+    ghost use Rattle.version_store.specs.Noted.{AreNoted};
     ghost use Rattle.version_store.specs.Tied.{versions_in, IsTied};
 
     ghost Value = { Stored };
@@ -41,7 +44,7 @@ impl Model for KeyedStore {
 
     ghost view = { λ s. record { versions = versions_in s.chains s.tree.pairs; present = s.present; cut = s.cut; spare = s.chains.spare; mark = s.mark } };
 
-    ghost invariant = { λ s. IsTied s.tree.pairs s.chains s.present × (s.cut ≤ s.present) };
+    ghost invariant = { λ s. IsTied s.tree.pairs s.chains s.present × (s.cut ≤ s.present) × AreNoted s.cut s.recent.stamps (versions_in s.chains s.tree.pairs) };
 }
 
 // How many versions the references of a walk have.
@@ -82,6 +85,7 @@ impl KeyedStore {
             cut,
             mark: None,
             near: Near::new(),
+            recent: Recent::new(present),
         }
     }
 
@@ -117,6 +121,14 @@ impl KeyedStore {
         ensures { result ≡ min (version_count self.now.versions) (2 ^ 64 - 1) }
     {
         count_versions(self.tree.iter(), &self.chains)
+    }
+
+    /// Whether a reference may have a version after a stamp: where it has none, that is mostly told, and never where the
+    /// stamp is before the cut. Takes no look-up and no memory.
+    pub fn is_recent(&self, key: &Key, stamp: u64) -> bool
+        ensures { result ≡ false → IsAbove (suc stamp) (versions_of self.now.versions key.now) }
+    {
+        stamp < self.cut || self.recent.is_after(key, stamp)
     }
 
     /// For how many versions cells are reserved.

@@ -27,7 +27,11 @@ impl KeyedStore {
         ensures cells { KeepsCells key.now self.old self.new }
     {
         match self.tree.get(key).0 {
-            Some(id) => self.chains.push_reserved(*id, stamp, value),
+            Some(id) => {
+                let id = *id;
+                self.recent.note(key, stamp, self.cut);
+                self.chains.push_reserved(id, stamp, value);
+            }
             None => unreachable!(),
         }
     }
@@ -93,6 +97,7 @@ impl KeyedStore {
         match self.tree.get(key).0 {
             Some(id) => {
                 let id = *id;
+                self.recent.note(key, stamp, self.cut);
                 self.chains.push_and_cut(id, stamp, value, horizon);
                 match self.chains.newest(id) {
                     Some(_) => {}

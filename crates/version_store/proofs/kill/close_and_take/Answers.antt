@@ -1,10 +1,9 @@
-use Rattle.std.proofs.Common.{◌≡◌, ℕ, ◌+◌, List, refl, sym, ap, subst, ◌∙◌}
+use Rattle.std.proofs.Common.{ℕ, ◌+◌, List, refl, sym, ap, subst, ◌∙◌}
 use Rattle.std.specs.Prelude.{not}
 use Rattle.std.specs.List.{filter}
 use Rattle.std.specs.FinMap as finmap
 use Rattle.collation.specs.Reference.{Reference}
 use Rattle.collation.specs.Database.{is_under}
-use Rattle.version_store.specs.Killed.{Tells}
 use Rattle.version_store.specs.Versions.{cells_in}
 use Rattle.version_store.specs.Tied.{versions_in, rows, IsTied}
 use Rattle.version_store.proofs.AloneLemmas.{open_alone, pairs_alone, tied_alone, versions_alone, spare_alone, cells_alone}

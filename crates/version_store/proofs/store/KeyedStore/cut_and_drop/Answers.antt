@@ -1,21 +1,22 @@
 use Rattle.std.proofs.Common.{arith}
 use Rattle.version_store.specs.Tied.{versions_in}
-use Rattle.version_store.proofs.TiedLemmas.{not_placed}
+use Rattle.version_store.proofs.TiedLemmas.{not_placed, cut_row, versions_without}
 use Rattle.version_store.proofs.DropLemmas.{content_tidied, count_left, none_left, one_left, tied_left, tied_gone, versions_gone, versions_kept}
 use Rattle.version_store.proofs.CellLemmas.{cells_in, no_cells_left}
+use Rattle.version_store.proofs.NotedLemmas.{noted_cut, noted_out}
 use Rattle.version_store.proofs.store.KeyedStore.cut_and_drop.Goals as goal
 
 pub invariant_of-self : goal.invariant_of-self
 invariant_of-self c =
     let s = c.self.inside in
     let at = rw c.in-Some.is at c.get.ensures.found in
-    (tied_left s.chains c.cut-count.new.self s.tree.pairs s.present c.in-Some.id.now c.args.horizon c.args.key.now c.self.invariant.0 at c.cut-count.ensures.chains, c.self.invariant.1)
+    (tied_left s.chains c.cut-count.new.self s.tree.pairs s.present c.in-Some.id.now c.args.horizon c.args.key.now c.self.invariant.0 at c.cut-count.ensures.chains, c.self.invariant.1, noted_cut s.cut s.recent.stamps (versions_in s.chains s.tree.pairs) _ c.args.key.now c.args.horizon c.self.invariant.2 (cut_row s.chains c.cut-count.new.self s.tree.pairs s.present c.in-Some.id.now c.args.horizon c.args.key.now c.self.invariant.0 at c.cut-count.ensures.chains))
 
 pub invariant_of-self-in-None-newest : goal.invariant_of-self-in-None-newest
 invariant_of-self-in-None-newest c =
     let s = c.self.inside in
     let at = rw c.in-Some.is at c.get.ensures.found in
-    rw c.remove.ensures.pairs (tied_gone s.chains c.cut-count.new.self s.tree.pairs s.present c.in-Some.id.now c.args.horizon c.args.key.now c.self.invariant.0 at c.cut-count.ensures.chains c.close.new.self c.close.ensures.chains, c.self.invariant.1)
+    rw c.remove.ensures.pairs (tied_gone s.chains c.cut-count.new.self s.tree.pairs s.present c.in-Some.id.now c.args.horizon c.args.key.now c.self.invariant.0 at c.cut-count.ensures.chains c.close.new.self c.close.ensures.chains, c.self.invariant.1, noted_out s.cut s.recent.stamps (versions_in c.cut-count.new.self s.tree.pairs) _ c.args.key.now (noted_cut s.cut s.recent.stamps (versions_in s.chains s.tree.pairs) _ c.args.key.now c.args.horizon c.self.invariant.2 (cut_row s.chains c.cut-count.new.self s.tree.pairs s.present c.in-Some.id.now c.args.horizon c.args.key.now c.self.invariant.0 at c.cut-count.ensures.chains)) (versions_without c.cut-count.new.self c.close.new.self s.tree.pairs s.present c.in-Some.id.now c.args.key.now (tied_left s.chains c.cut-count.new.self s.tree.pairs s.present c.in-Some.id.now c.args.horizon c.args.key.now c.self.invariant.0 at c.cut-count.ensures.chains) at c.close.ensures.chains))
 
 pub unreachable-requires : goal.unreachable-requires
 unreachable-requires c =

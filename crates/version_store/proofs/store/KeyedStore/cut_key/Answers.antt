@@ -4,13 +4,14 @@ use Rattle.version_store.specs.Tied.{versions_in}
 use Rattle.version_store.specs.laws.Content.{content_cut}
 use Rattle.version_store.proofs.TiedLemmas.{row_in, not_placed, cut_row, tied_cut}
 use Rattle.version_store.proofs.CellLemmas.{cells_in}
+use Rattle.version_store.proofs.NotedLemmas.{noted_cut}
 use Rattle.version_store.proofs.store.KeyedStore.cut_key.Goals as goal
 
 pub invariant_of-self : goal.invariant_of-self
 invariant_of-self c =
     let s = c.self.inside in
     let at = rw c.in-Some.is at c.get.ensures.found in
-    (tied_cut s.chains c.cut.new.self s.tree.pairs s.present c.in-Some.id.now c.args.horizon c.args.key.now c.self.invariant.0 at c.cut.ensures.chains, c.self.invariant.1)
+    (tied_cut s.chains c.cut.new.self s.tree.pairs s.present c.in-Some.id.now c.args.horizon c.args.key.now c.self.invariant.0 at c.cut.ensures.chains, c.self.invariant.1, noted_cut s.cut s.recent.stamps (versions_in s.chains s.tree.pairs) _ c.args.key.now c.args.horizon c.self.invariant.2 (cut_row s.chains c.cut.new.self s.tree.pairs s.present c.in-Some.id.now c.args.horizon c.args.key.now c.self.invariant.0 at c.cut.ensures.chains))
 
 pub unreachable-requires : goal.unreachable-requires
 unreachable-requires c =

@@ -5,13 +5,14 @@ use Rattle.version_store.specs.Versions.{is_bare}
 use Rattle.version_store.specs.Tied.{versions_in}
 use Rattle.version_store.specs.laws.Content.{content_dropped}
 use Rattle.version_store.proofs.TiedLemmas.{no_versions, bare_in, not_bare_in, no_bare_in, tied_without, versions_without}
+use Rattle.version_store.proofs.NotedLemmas.{noted_out}
 use Rattle.version_store.proofs.store.KeyedStore.drop_key.Goals as goal
 
 pub invariant_of-self : goal.invariant_of-self
 invariant_of-self c =
     let s = c.self.inside in
     let at = rw c.in-Some.is at c.get.ensures.found in
-    rw c.remove.ensures.pairs (tied_without s.chains c.close.new.self s.tree.pairs s.present c.in-Some.id.now c.args.key.now c.self.invariant.0 at c.close.ensures.chains, c.self.invariant.1)
+    rw c.remove.ensures.pairs (tied_without s.chains c.close.new.self s.tree.pairs s.present c.in-Some.id.now c.args.key.now c.self.invariant.0 at c.close.ensures.chains, c.self.invariant.1, noted_out s.cut s.recent.stamps (versions_in s.chains s.tree.pairs) _ c.args.key.now c.self.invariant.2 (versions_without s.chains c.close.new.self s.tree.pairs s.present c.in-Some.id.now c.args.key.now c.self.invariant.0 at c.close.ensures.chains))
 
 pub returns-in-Some-newest-clause-bare : goal.returns-in-Some-newest-clause-bare
 returns-in-Some-newest-clause-bare c =

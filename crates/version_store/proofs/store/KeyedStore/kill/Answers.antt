@@ -1,12 +1,9 @@
-use Rattle.std.proofs.Common.{sym, ap, subst, ◌∙◌, arith}
-use Rattle.std.specs.Prelude.{not}
-use Rattle.std.specs.List.{filter}
-use Rattle.std.specs.FinMap as finmap
-use Rattle.collation.specs.Database.{is_under}
+use Rattle.std.proofs.Common.{ap, ◌∙◌, arith}
 use Rattle.version_store.specs.Versions.{content_at, versions_of, cells_in}
-use Rattle.version_store.specs.Tied.{versions_in, IsTied}
+use Rattle.version_store.specs.Tied.{versions_in}
 use Rattle.version_store.proofs.TiedLemmas.{tied_later, low_in, entries_in}
 use Rattle.version_store.proofs.KillLemmas.{content_killed, rows_stay}
+use Rattle.version_store.proofs.NotedLemmas.{noted_grown, noted_killed}
 use Rattle.version_store.proofs.store.KeyedStore.kill.Goals as goal
 
 pub close_and_take-requires : goal.close_and_take-requires
@@ -16,7 +13,7 @@ pub invariant_of-self : goal.invariant_of-self
 invariant_of-self c =
     let s = c.self.inside in
     let later = rw (← c.self.view_is) at c.requires in
-    (tied_later c.close_and_take.new.chains c.close_and_take.new.tree.pairs s.present c.args.stamp (c.close_and_take.ensures.tied s.present c.self.invariant.0) (omega (arith, later)), omega arith)
+    (tied_later c.close_and_take.new.chains c.close_and_take.new.tree.pairs s.present c.args.stamp (c.close_and_take.ensures.tied s.present c.self.invariant.0) (omega (arith, later)), omega arith, noted_killed c.args.stamp s.recent.stamps (versions_in s.chains s.tree.pairs) _ c.args.root.now (noted_grown s.cut c.args.stamp s.recent.stamps s.recent.stamps (versions_in s.chains s.tree.pairs) c.self.invariant.2 (omega (arith, later, c.self.invariant.1)) (λ r. omega arith)) c.close_and_take.ensures.versions)
 
 pub returns-clause-versions : goal.returns-clause-versions
 returns-clause-versions c = rw (← c.self.view_is) c.close_and_take.ensures.versions

@@ -1,8 +1,10 @@
 use Rattle.std.proofs.Common.{subst, arith}
 use Rattle.version_chain.specs.Versions.{IsAbove}
-use Rattle.version_store.proofs.TiedLemmas.{row_in, not_placed}
+use Rattle.version_store.specs.Tied.{versions_in}
+use Rattle.version_store.proofs.TiedLemmas.{row_in, not_placed, versions_without}
 use Rattle.version_store.proofs.CutLemmas.{cut_at_once, tied_bare, versions_bare, versions_left}
 use Rattle.version_store.proofs.CellLemmas.{cells_in, no_cells_left}
+use Rattle.version_store.proofs.NotedLemmas.{noted_grown, noted_out, noted_pushed_and_cut}
 use Rattle.version_store.proofs.store.KeyedStore.push_and_cut.Goals as goal
 
 pub push_and_cut-requires-clause-newest : goal.push_and_cut-requires-clause-newest
@@ -25,7 +27,7 @@ invariant_of-self c =
     let low = rw (← c.self.view_is) at c.requires.stamp in
     let newest = rw (← c.self.view_is) at c.requires.newest in
     let is = cut_at_once s.chains c.push_and_cut.new.self s.tree.pairs s.present c.in-Some.id.now c.args.stamp c.args.horizon c.args.key.now c.args.value c.self.invariant.0 at c.push_and_cut.ensures.chains c.requires.first low newest in
-    (is.tied, c.self.invariant.1)
+    (is.tied, c.self.invariant.1, noted_pushed_and_cut s.cut c.note.new.self.stamps (versions_in s.chains s.tree.pairs) _ c.args.stamp c.args.horizon c.args.key.now c.args.value (noted_grown s.cut s.cut s.recent.stamps c.note.new.self.stamps (versions_in s.chains s.tree.pairs) c.self.invariant.2 (omega arith) c.note.ensures.grows) c.note.ensures.noted is.versions)
 
 pub invariant_of-self-in-None-newest : goal.invariant_of-self-in-None-newest
 invariant_of-self-in-None-newest c =
@@ -34,7 +36,7 @@ invariant_of-self-in-None-newest c =
     let low = rw (← c.self.view_is) at c.requires.stamp in
     let newest = rw (← c.self.view_is) at c.requires.newest in
     let is = cut_at_once s.chains c.push_and_cut.new.self s.tree.pairs s.present c.in-Some.id.now c.args.stamp c.args.horizon c.args.key.now c.args.value c.self.invariant.0 at c.push_and_cut.ensures.chains c.requires.first low newest in
-    rw c.remove.ensures.pairs (tied_bare s.chains c.push_and_cut.new.self s.tree.pairs s.present c.in-Some.id.now c.args.stamp c.args.horizon c.args.key.now c.args.value is at c.close.new.self c.close.ensures.chains, c.self.invariant.1)
+    rw c.remove.ensures.pairs (tied_bare s.chains c.push_and_cut.new.self s.tree.pairs s.present c.in-Some.id.now c.args.stamp c.args.horizon c.args.key.now c.args.value is at c.close.new.self c.close.ensures.chains, c.self.invariant.1, noted_out s.cut c.note.new.self.stamps (versions_in c.push_and_cut.new.self s.tree.pairs) _ c.args.key.now (noted_pushed_and_cut s.cut c.note.new.self.stamps (versions_in s.chains s.tree.pairs) _ c.args.stamp c.args.horizon c.args.key.now c.args.value (noted_grown s.cut s.cut s.recent.stamps c.note.new.self.stamps (versions_in s.chains s.tree.pairs) c.self.invariant.2 (omega arith) c.note.ensures.grows) c.note.ensures.noted is.versions) (versions_without c.push_and_cut.new.self c.close.new.self s.tree.pairs s.present c.in-Some.id.now c.args.key.now is.tied at c.close.ensures.chains))
 
 pub returns-in-Some-newest-clause-versions : goal.returns-in-Some-newest-clause-versions
 returns-in-Some-newest-clause-versions c =

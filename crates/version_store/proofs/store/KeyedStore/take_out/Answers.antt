@@ -1,6 +1,8 @@
 use Rattle.std.proofs.Common.{arith}
+use Rattle.version_store.specs.Tied.{versions_in}
 use Rattle.version_store.proofs.TiedLemmas.{not_placed, tied_without, versions_without}
 use Rattle.version_store.proofs.CellLemmas.{cells_in, no_cells_left}
+use Rattle.version_store.proofs.NotedLemmas.{noted_out}
 use Rattle.version_store.proofs.store.KeyedStore.take_out.Goals as goal
 
 pub unreachable-requires : goal.unreachable-requires
@@ -13,7 +15,7 @@ pub invariant_of-self : goal.invariant_of-self
 invariant_of-self c =
     let s = c.self.inside in
     let at = rw c.in-Some.is at c.remove.ensures.value in
-    rw c.remove.ensures.pairs (tied_without s.chains c.close.new.self s.tree.pairs s.present c.in-Some.id c.args.key.now c.self.invariant.0 at c.close.ensures.chains, c.self.invariant.1)
+    rw c.remove.ensures.pairs (tied_without s.chains c.close.new.self s.tree.pairs s.present c.in-Some.id c.args.key.now c.self.invariant.0 at c.close.ensures.chains, c.self.invariant.1, noted_out s.cut s.recent.stamps (versions_in s.chains s.tree.pairs) _ c.args.key.now c.self.invariant.2 (versions_without s.chains c.close.new.self s.tree.pairs s.present c.in-Some.id c.args.key.now c.self.invariant.0 at c.close.ensures.chains))
 
 pub returns-clause-versions : goal.returns-clause-versions
 returns-clause-versions c =
