@@ -4,7 +4,7 @@
 //! ranges of them all. Walked one by one these would take m times n steps, while each other job waits. So where there
 //! are more than a few, those that have to be walked are put in the order of their beginnings, and each is looked
 //! through only from where those before it end: no node is passed twice. A range of one reference is looked up, without
-//! a walk.
+//! a walk, and mostly not even that: the store tells of most references that they weren't written since (`is_recent`).
 //!
 //! The answer doesn't rest on that order, nor on memory: what is passed over is seen to lie in a range that has no
 //! newer version, and where the list of ranges is refused memory each is looked through by itself.
@@ -12,10 +12,13 @@ ghost use Rattle.std.specs.Prelude.{◌≡◌, ◌&&◌, true, false, IfOk};
 ghost use Rattle.std.specs.List.{list_any};
 ghost use Rattle.collation.specs.Reference.{Reference};
 ghost use Rattle.globals.specs.Cuts.{stands_before};
+ghost use Rattle.version_chain.specs.Versions.{newest_of};
+ghost use Rattle.version_store.specs.Versions.{versions_of};
 ghost use Rattle.read_ranges.specs.Ranges.{begins_after, between, is_in, is_in_one};
 ghost use Rattle.validate_commit.specs.Newer.{is_later, is_single, is_in_single, is_in_wide, HasNewerIn, NoneNewerIn, HasNewerRead, NoneNewerRead};
 
 use globals::Cut;
+use key_codec::Key;
 use read_ranges::{ReadRange, is_at_most};
 use std::alloc::{AllocError, Global};
 use std::cmp::Ordering;
@@ -34,13 +37,20 @@ fn is_after(newest: Option<u64>, stamp: u64) -> bool
     }
 }
 
+// Whether a version after the stamp stands at a reference. It is looked up only where it may have been written since.
+fn is_newer_at(store: &KeyedStore, key: &Key, stamp: u64) -> bool
+    ensures { result ≡ is_later (newest_of (versions_of store.now.versions key.now)) stamp }
+{
+    store.is_recent(key, stamp) && is_after(store.newest_of(key), stamp)
+}
+
 // Whether a version after the stamp stands at a reference of the range.
 fn is_newer(store: &KeyedStore, range: &ReadRange, stamp: u64) -> bool
     ensures found { result ≡ true → HasNewerIn store.now.versions stamp (is_in range.now) }
     ensures none { result ≡ false → NoneNewerIn store.now.versions stamp (is_in range.now) }
 {
     match range {
-        ReadRange::One(key) => is_after(store.newest_of(key), stamp),
+        ReadRange::One(key) => is_newer_at(store, key, stamp),
         ReadRange::Between(low, high) => is_after(store.newest_in(low.cut(), high.cut()), stamp),
     }
 }

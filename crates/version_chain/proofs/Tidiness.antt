@@ -64,6 +64,13 @@ module _ {V : Type 0} where
       let none : v ∷ vs ≡ [] → ⊥ = λ e. cc in
       cut_late h (stamp, x) (v ∷ vs) (leb_no stamp h (leb stamp h) refl late) ∙ ap (λ us. (stamp, x) ∷ us) (same (newer none))
 
+  -- a cut drops nothing of a chain that is known to be tidy, or has no version
+  pub cut_known : (h since : ℕ) (vs : List (Entry V)) → (¬ (vs ≡ []) → IsNewerThan since vs) → (IsNewerThan since vs → cut_of h vs ≡ vs) → vs ≡ cut_of h vs
+  cut_known h since [] newer same = refl
+  cut_known h since (v ∷ vs) newer same =
+      let none : v ∷ vs ≡ [] → ⊥ = λ e. cc in
+      sym (same (newer none))
+
   above_more : (m n : ℕ) (vs : List (Entry V)) → m ≤ n → IsAbove m vs → IsAbove n vs
   above_more m n [] le above = tt
   above_more m n (v ∷ vs) le above = omega (arith, le, above)

@@ -5,7 +5,7 @@ ghost use Rattle.version_chain.specs.Links.{line_versions};
 ghost use Rattle.version_chain.specs.Tidy.{since_at as since_at_spec};
 
 use crate::chain::{LentLine, Line, at, count, end, is_alone, newest, push};
-use crate::cut::{cut, push_and_cut};
+use crate::cut::{cut_since, push_and_cut};
 use crate::slots::Slots;
 use crate::version::Version;
 use cell_pool::{Cell, Pool};
@@ -227,7 +227,8 @@ impl<V: Drop> Chains<V> {
     }
 
     /// Drops each version that a newer one not after the horizon hides, and an absence not after the horizon where it is the
-    /// oldest left. Answers how many it dropped. Takes no memory, and what is seen from the horizon on stays.
+    /// oldest left. Answers how many it dropped. Takes no memory, and what is seen from the horizon on stays. Where it is known
+    /// that none has to go, as of a chain that was written under this horizon, it looks at none but the newest.
     pub fn cut(&mut self, id: ChainId, horizon: u64) -> usize
         requires { IsOpen self.old id }
         ensures chains { Updates self.old self.new id (Some (left_after horizon (versions_at self.old id))) }
@@ -236,8 +237,9 @@ impl<V: Drop> Chains<V> {
         ensures spare { self.new.spare + cells_at self.new id ≡ self.old.spare + cells_at self.old id }
         ensures least { self.old.spare ≤ self.new.spare }
     {
+        let tidy_since = since_at(horizon, self.horizon, self.since, self.latest);
         let line = self.lines.replace(id.number as usize, None);
-        let (line, count) = cut(&mut self.pool, line, horizon);
+        let (line, count) = cut_since(&mut self.pool, line, tidy_since, horizon);
         put(&mut self.lines, id.number as usize, line);
         count
     }

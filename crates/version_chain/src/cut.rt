@@ -126,6 +126,27 @@ fn is_newer<V>(line: &Line<V>, stamp: u64) -> bool
     }
 }
 
+/// Drops what `cut` drops. Where the newest version is after `since` it is known that nothing has to go, and no older one is
+/// looked at.
+pub(crate) fn cut_since<V: Drop>(
+    pool: &mut Pool<Version<V>>,
+    line: Line<V>,
+    since: u64,
+    horizon: u64,
+) -> (Line<V>, usize)
+    requires theirs { AllOf pool.old.pages (line_pages line) }
+    requires tidy { IsNewerThan since (line_versions line) → cut_of horizon (line_versions line) ≡ line_versions line }
+    ensures left { line_versions result.0 ≡ cut_of horizon (line_versions line) }
+    ensures count { result.1 + length (line_versions result.0) ≡ length (line_versions line) }
+    ensures theirs { AllOf pool.new.pages (line_pages result.0) }
+    ensures counts { (pool.new.pages ≡ pool.old.pages) × (pool.new.out + cells_of (line_versions line) ≡ pool.old.out + cells_of (line_versions result.0)) × (pool.new.spare + pool.new.out ≡ pool.old.spare + pool.old.out) }
+{
+    if !is_newer(&line, since) {
+        return cut(pool, line, horizon);
+    }
+    (line, 0)
+}
+
 /// Puts a version in front, and drops what a cut drops. A version that isn't after the horizon hides all others, so that
 /// these go and none takes a cell. Where the newest one so far is after `since`, it is known that no older one has to go, and
 /// none is looked at but the first, whose cell keeps the stamp. Where there is none so far, nothing has to go either. Else the

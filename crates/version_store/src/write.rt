@@ -28,8 +28,8 @@ impl KeyedStore {
     {
         match self.tree.get(key).0 {
             Some(id) => {
-                let id = *id;
-                self.recent.note(key, stamp, self.cut);
+                let (id, cut) = (*id, self.cut);
+                self.recent.note(key, stamp, cut);
                 self.chains.push_reserved(id, stamp, value);
             }
             None => unreachable!(),
