@@ -474,8 +474,7 @@ impl Locked {
     {
         self.horizon = board.draw(desk);
         let turn = self.core.collect(self.horizon, limit)?;
-        let keys = self.core.placed_count();
-        self.sweep.note_turn(self.horizon, turn, keys);
+        self.sweep.note_turn(self.horizon, turn, &self.core);
         Ok(turn)
     }
 

@@ -8,7 +8,7 @@ use pin_board::{Board, Lifted};
 
 /// A turn of the collector that a call may take at the end of its hold of the exclusive lock, so that it needs no hold
 /// of its own. It is at a horizon that is above no open transaction's start. Where all keys were visited since the last
-/// write, or memory is refused, it stays due.
+/// write, little would be dropped, or memory is refused, it stays due.
 #[derive(Clone, Copy, Debug, PartialEq, Eq)]
 pub enum Turn {
     /// None is due.
@@ -20,7 +20,8 @@ pub enum Turn {
 }
 
 impl Locked {
-    /// Takes a turn that is due. Where all keys were visited since the last write, or memory is refused, it stays due.
+    /// Takes a turn that is due. Where all keys were visited since the last write, little would be dropped, or memory is
+    /// refused, it stays due.
     pub(crate) fn take_turn(&mut self, board: &Board, desk: &mut Lifted, turn: &mut Turn)
         requires own { desk.old.table ≡ board.now.table }
         requires stands { IsLocked self.old.core desk.old self.old.seats self.old.horizon self.old.opened }
@@ -34,7 +35,7 @@ impl Locked {
         let Turn::Due(keys) = *turn else {
             return;
         };
-        if self.is_swept() {
+        if self.is_swept() || !self.sweep.pays(&self.core) {
             return;
         }
         if let Ok(progress) = self.collect(board, desk, keys) {

@@ -165,6 +165,11 @@ impl<V: Drop> Chains<V> {
         newest(self.line(id))
     }
 
+    /// How many versions lie below newer ones. A number for whoever decides how much upkeep pays: no contract rests on it.
+    pub fn older(&self) -> usize {
+        self.pool.out()
+    }
+
     /// Whether an open chain has one version, which is a value: no cut drops anything of it.
     pub fn is_alone(&self, id: ChainId) -> bool
         requires { IsOpen self.now id }

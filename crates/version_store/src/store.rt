@@ -30,6 +30,7 @@ pub struct KeyedStore {
     pub(crate) mark: Option<Key>,
     pub(crate) near: Near,
     pub(crate) recent: Recent,
+    pub(crate) absences: u64,
 }
 
 impl Model for KeyedStore {
@@ -86,6 +87,7 @@ impl KeyedStore {
             mark: None,
             near: Near::new(),
             recent: Recent::new(present),
+            absences: 0,
         }
     }
 
@@ -136,6 +138,17 @@ impl KeyedStore {
         ensures { result ≡ self.now.spare }
     {
         self.chains.spare()
+    }
+
+    /// How many absences were written so far that somebody might ask for. With `older` it tells how much a collector would
+    /// find: no contract rests on either.
+    pub fn absences(&self) -> u64 {
+        self.absences
+    }
+
+    /// How many versions lie below newer ones.
+    pub fn older(&self) -> usize {
+        self.chains.older()
     }
 
     /// Whether the reference has a chain.

@@ -147,6 +147,7 @@ impl KeyedStore {
                 if stamp <= horizon {
                     self.take_out(key);
                 } else {
+                    self.absences = self.absences.wrapping_add(1);
                     self.push_and_cut(stamp, horizon, key, None);
                 }
             }
