@@ -452,6 +452,19 @@ impl Locked {
         }
     }
 
+    /// Draws a horizon: what is written from here on drops what nobody sees from there on.
+    pub(crate) fn draw(&mut self, board: &Board, desk: &mut Lifted)
+        requires own { desk.old.table ≡ board.now.table }
+        requires stands { IsLocked self.old.core desk.old self.old.seats self.old.horizon self.old.opened }
+        ensures table { desk.new.table ≡ desk.old.table }
+        ensures stands { IsLocked self.new.core desk.new self.new.seats self.new.horizon self.new.opened }
+        ensures core { self.new.core ≡ self.old.core }
+        ensures others { (desk.new.knows.given ≡ desk.old.knows.given) × (self.new.seats ≡ self.old.seats) }
+    {
+        self.horizon = board.draw(desk);
+        self.sweep.note_horizon();
+    }
+
     /// Draws a horizon, and lets the collector visit so many keys: what nobody sees from that horizon on is dropped.
     ///
     /// Refusals, after which what all jobs share is as it was: `OutOfMemory`.

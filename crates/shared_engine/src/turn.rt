@@ -21,7 +21,7 @@ pub enum Turn {
 
 impl Locked {
     /// Takes a turn that is due. Where all keys were visited since the last write, little would be dropped, or memory is
-    /// refused, it stays due.
+    /// refused, it stays due. Where little would be, a horizon is drawn now and then, so that writes drop what they can.
     pub(crate) fn take_turn(&mut self, board: &Board, desk: &mut Lifted, turn: &mut Turn)
         requires own { desk.old.table ≡ board.now.table }
         requires stands { IsLocked self.old.core desk.old self.old.seats self.old.horizon self.old.opened }
@@ -35,7 +35,13 @@ impl Locked {
         let Turn::Due(keys) = *turn else {
             return;
         };
-        if self.is_swept() || !self.sweep.pays(&self.core) {
+        if self.is_swept() {
+            return;
+        }
+        if !self.sweep.pays(&self.core) {
+            if self.sweep.is_behind() {
+                self.draw(board, desk);
+            }
             return;
         }
         if let Ok(progress) = self.collect(board, desk, keys) {
