@@ -16,9 +16,9 @@
  * has changed nothing, and may be made again. The calls named vgt_ do that for you: they spin, then yield, then sleep.
  * They are written by hand, for POSIX threads, and tested; what they call is proved.
  *
- * Looks, and commands that read in a transaction, go on side by side, quickest under a vgt_hold; most other calls have
- * the database for themselves for a moment, one after another. Where one waits long for that, each of the former lets
- * one of the latter by before it begins.
+ * Looks, and data commands in a transaction, go on side by side, quickest under a vgt_hold; most other calls have the
+ * database for themselves for a moment, one after another. Where one waits for that, each of the former lets one of the
+ * latter by before it begins.
  *
  * There are no calls here for command lines, a listing, a load, the journal, children and counts: a walk of all in a
  * view, at VG_AT_START, reads all that is there at one moment.
@@ -111,7 +111,7 @@ vg_outcome vorgushan_s_checkpoint(vg_session *session);
  * threads may make or end it at once; what else they do with it they may. */
 typedef struct vgt_hub {
     vg_hub own;
-    unsigned waiting_writers; /* calls that have spun in vain to have the database for themselves */
+    unsigned waiting_writers; /* calls that wait to have the database for themselves */
     unsigned served_writers;  /* how many of those came through */
     pthread_mutex_t opening;  /* held round each call that is given the hub */
     pthread_mutex_t writing;  /* held by the call that is next to have the database for itself */
@@ -136,14 +136,14 @@ typedef struct vgt_session {
 #define VGT_SESSION_NONE {{NULL}, NULL, 0, 0, 0}
 
 /* So often vgt_pause spins before it yields. */
-enum { VGT_SPINNING_TURNS = 8 };
+enum { VGT_SPINNING_TURNS = 40 };
 
-/* Spins, then yields, then sleeps: longer at each turn. */
+/* Spins, then yields, then sleeps. It never spins for longer than a call takes. */
 static inline void vgt_pause(unsigned *turn) {
     const struct timespec nap = {0, 50000};
     unsigned spin;
     if (*turn < VGT_SPINNING_TURNS) {
-        for (spin = 0; spin < 16u << *turn; spin++)
+        for (spin = 0; spin < 16u << (*turn < 2 ? *turn : 2); spin++)
             __builtin_ia32_pause();
     } else if (*turn < 64) {
         sched_yield();
@@ -173,16 +173,16 @@ static inline int vgt_is_over(const struct timespec *until) {
     return now.tv_sec > until->tv_sec || (now.tv_sec == until->tv_sec && now.tv_nsec >= until->tv_nsec);
 }
 
-/* Pauses for a call that may need the database for itself. Once it has spun in vain it is among the waiting writers. */
+/* Pauses for a call that may need the database for itself. From its first try in vain on it is a waiting writer. */
 static inline void vgt_wait_in_line(vgt_hub *hub, unsigned *turn) {
-    if (*turn == VGT_SPINNING_TURNS)
+    if (*turn == 0)
         __atomic_add_fetch(&hub->waiting_writers, 1, __ATOMIC_RELAXED);
     vgt_pause(turn);
 }
 
 /* Such a call is through, after so many turns. */
 static inline void vgt_leave_line(vgt_hub *hub, unsigned turn) {
-    if (turn <= VGT_SPINNING_TURNS)
+    if (turn == 0)
         return;
     __atomic_add_fetch(&hub->served_writers, 1, __ATOMIC_RELAXED);
     __atomic_sub_fetch(&hub->waiting_writers, 1, __ATOMIC_RELAXED);
@@ -212,11 +212,25 @@ static inline void vgt_let_go(vgt_session *session) {
     vorgushan_s_release(&session->own);
 }
 
-/* Calls that may need the database for themselves come one after another, and the others sleep meanwhile: where all of
- * them spun, each would keep the others from it. */
+/* How often a call looks whether it is next before it sleeps, and how often before it lets others run meanwhile. */
+enum { VGT_QUEUE_TURNS = 40, VGT_QUEUE_SPINNING_TURNS = 8 };
+
+/* Calls that may need the database for themselves come one after another: where all of them tried for it, each would
+ * keep the others from it. Who isn't next looks seldom, so that who is does several calls before all that they touch
+ * goes to another processor; at last it sleeps. */
 static inline void vgt_queue(vgt_hub *hub) {
-    if (hub)
-        pthread_mutex_lock(&hub->writing);
+    unsigned turn, spin;
+    if (!hub)
+        return;
+    for (turn = 0; turn < VGT_QUEUE_TURNS; turn++) {
+        if (!pthread_mutex_trylock(&hub->writing))
+            return;
+        for (spin = 0; spin < 256u << (turn < 3 ? turn : 3); spin++)
+            __builtin_ia32_pause();
+        if (turn >= VGT_QUEUE_SPINNING_TURNS)
+            sched_yield();
+    }
+    pthread_mutex_lock(&hub->writing);
 }
 
 static inline void vgt_leave_queue(vgt_hub *hub) {
@@ -252,17 +266,8 @@ static inline void vgt_leave_queue(vgt_hub *hub) {
             vgt_pause(&vgt_turn);                                                                                      \
     } while (0)
 
-/* The same of SET and KILL: in a transaction of a session that holds they look at no more than what is held. */
-#define VGT_WRITE(session, outcome, call)                                                                              \
-    do {                                                                                                               \
-        if ((session)->holds && (session)->in_transaction)                                                             \
-            VGT_LOOK(session, outcome, call);                                                                          \
-        else                                                                                                           \
-            VGT_RETRY(session, outcome, call);                                                                         \
-    } while (0)
-
-/* The same of a command that reads: in a transaction it only looks, and else it is a unit of the journal. */
-#define VGT_READ(session, outcome, call)                                                                               \
+/* The same of a data command: in a transaction it only looks, also where it writes, and else it is a unit. */
+#define VGT_DATA(session, outcome, call)                                                                               \
     do {                                                                                                               \
         if ((session)->in_transaction)                                                                                 \
             VGT_LOOK(session, outcome, call);                                                                          \
@@ -376,7 +381,7 @@ static inline vg_outcome vgt_halt(vgt_session *session) {
 static inline vg_outcome vgt_set(vgt_session *session, vg_key *key, const char *value, size_t value_length) {
     char nothing = 0;
     vg_outcome outcome;
-    VGT_WRITE(session, outcome,
+    VGT_DATA(session, outcome,
               vorgushan_s_set(&session->own, key, value ? value : &nothing, value ? value_length : 0));
     return outcome;
 }
@@ -384,7 +389,7 @@ static inline vg_outcome vgt_set(vgt_session *session, vg_key *key, const char *
 /* As vg_kill, vg_kill_value or vg_kill_subscripts, by what is taken. */
 static inline vg_outcome vgt_kill(vgt_session *session, uint32_t extent, vg_key *key) {
     vg_outcome outcome;
-    VGT_WRITE(session, outcome, vorgushan_s_kill(&session->own, extent, key));
+    VGT_DATA(session, outcome, vorgushan_s_kill(&session->own, extent, key));
     return outcome;
 }
 
@@ -394,7 +399,7 @@ static inline vg_outcome vgt_get(vgt_session *session, vg_key *key, char *value,
     char nothing = 0;
     size_t length = 0;
     vg_outcome outcome;
-    VGT_READ(session, outcome,
+    VGT_DATA(session, outcome,
              vorgushan_s_get(&session->own, key, value ? value : &nothing, value ? value_size : 0, &length));
     if (value_length)
         *value_length = length;
@@ -416,7 +421,7 @@ static inline vg_outcome vgt_merge(vgt_session *session, vg_key *to, vg_key *fro
     vg_outcome outcome;
     if (to == from)
         return VG_MERGE_OVERLAP;
-    VGT_READ(session, outcome, vorgushan_s_merge(&session->own, to, from));
+    VGT_DATA(session, outcome, vorgushan_s_merge(&session->own, to, from));
     return outcome;
 }
 
@@ -424,7 +429,7 @@ static inline vg_outcome vgt_merge(vgt_session *session, vg_key *to, vg_key *fro
 static inline vg_outcome vgt_data(vgt_session *session, vg_key *key, uint64_t *number) {
     uint64_t told = 0;
     vg_outcome outcome;
-    VGT_READ(session, outcome, vorgushan_s_data(&session->own, key, &told));
+    VGT_DATA(session, outcome, vorgushan_s_data(&session->own, key, &told));
     if (number)
         *number = told;
     return outcome;
@@ -436,7 +441,7 @@ static inline vg_outcome vgt_increment(vgt_session *session, vg_key *key, const 
     char nothing = 0;
     size_t length = 0;
     vg_outcome outcome;
-    VGT_READ(session, outcome,
+    VGT_DATA(session, outcome,
              vorgushan_s_increment(&session->own, key, number ? number : &nothing, number ? number_length : 0,
                                    sum ? sum : &nothing, sum ? sum_size : 0, &length));
     if (sum_length)
@@ -453,7 +458,7 @@ static inline vg_outcome vgt_order(vgt_session *session, vg_key *key, const char
     size_t length = 0;
     size_t from_length = vg_start_copied(from, start, start_length);
     vg_outcome outcome;
-    VGT_READ(session, outcome,
+    VGT_DATA(session, outcome,
              vorgushan_s_order(&session->own, key, from, from_length, direction, subscript ? subscript : &nothing,
                                subscript ? subscript_size : 0, &length));
     if (subscript_length)
@@ -464,7 +469,7 @@ static inline vg_outcome vgt_order(vgt_session *session, vg_key *key, const char
 /* As vg_query. */
 static inline vg_outcome vgt_query(vgt_session *session, vg_key *key, uint32_t from, uint32_t direction) {
     vg_outcome outcome;
-    VGT_READ(session, outcome, vorgushan_s_query(&session->own, key, from, direction));
+    VGT_DATA(session, outcome, vorgushan_s_query(&session->own, key, from, direction));
     return outcome;
 }
 
@@ -476,7 +481,7 @@ static inline vg_outcome vgt_next_name(vgt_session *session, const char *start, 
     size_t length = 0;
     size_t from_length = vg_start_copied(from, start, start_length);
     vg_outcome outcome;
-    VGT_READ(session, outcome,
+    VGT_DATA(session, outcome,
              vorgushan_s_next_name(&session->own, from, from_length, direction, name ? name : &nothing,
                                    name ? name_size : 0, &length));
     if (name_length)

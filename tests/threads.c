@@ -157,7 +157,7 @@ void __wrap_free(void *block) {
         busy = 0;                                                                                                      \
     } while (0)
 
-/* A call that may need the database for itself waits in line once it has spun in vain. */
+/* A call that may need the database for itself waits in line from its first try in vain. */
 #define CHECK_AFTER_BUSY(outcome, call) CHECK_BUSY(VGT_SPINNING_TURNS + 2, 1, outcome, call)
 
 /* A look never does, but gives way to those who do: for 50 milliseconds, where they don't come through. */
@@ -828,11 +828,14 @@ static void use_walkers(void) {
     vg_key_end(&node);
 }
 
-/* Commands that read look in a transaction, and give way there. */
+/* Data commands only look in a transaction, and give way there. */
 static void use_reads(void) {
     vg_key none = VG_KEY_NONE;
     CHECK_BUSY(VGT_SPINNING_TURNS + 2, 0, VG_DONE, vgt_get(&one, &first, text, sizeof text, &length));
     CHECK_GIVES_WAY(vgt_get(&one, &first, text, sizeof text, &length));
+    CHECK_BUSY(VGT_SPINNING_TURNS + 2, 0, VG_DONE, vgt_set(&one, &first, VG_TEXT("1")));
+    CHECK_GIVES_WAY(vgt_set(&one, &first, VG_TEXT("1")));
+    CHECK_GIVES_WAY(vgt_kill(&one, VG_KILL_BELOW, &first));
     CHECK_GIVES_WAY(vgt_data(&one, &first, NULL));
     CHECK_GIVES_WAY(vgt_order(&one, &root, NULL, 0, VG_FORWARD, text, sizeof text, &length));
     CHECK_GIVES_WAY(vgt_query(&one, &none, VG_AT_KEY, VG_FORWARD));
@@ -842,7 +845,7 @@ static void use_reads(void) {
 }
 
 static void use_readers(void) {
-    CHECK_BUSY(VGT_SPINNING_TURNS, 0, VG_DONE, vgt_set(&one, &first, VG_TEXT("1")));
+    CHECK_BUSY(1, 1, VG_DONE, vgt_set(&one, &first, VG_TEXT("1")));
     CHECK(vgt_tstart(&one, NULL) == VG_DONE && vgt_tstart(&one, NULL) == VG_DONE && vgt_tcommit(&one, NULL) == VG_DONE);
     use_reads();
     CHECK(vgt_trestart(&one, NULL) == VG_RESTARTED);
