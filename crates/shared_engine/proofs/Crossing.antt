@@ -54,7 +54,7 @@ store_sync =
       search (heap.crosses, nodes.crosses, key.the_sync, sendable) depth 60 fits 20000,
       (
         search (heap.crosses, versions.crosses, text.the_send, text.the_sync, pool.the_sync, cell.the_sync, sendable) depth 60 fits 20000,
-        (search sendable, (search sendable, (search (heap.crosses, key.the_sync, sendable) depth 60, (search (near.the_sync, sendable) depth 60, tt)))),
+        (search sendable, (search sendable, (search (heap.crosses, key.the_sync, sendable) depth 60, (search (near.the_sync, sendable) depth 60, (search sendable depth 60, (search sendable, tt)))))),
       ),
     ) in
     record { shared = λ d b o κ x. (c.shared (StoreInside.the_type.to x.0) b o κ, tt) }
@@ -120,10 +120,10 @@ session_send B g =
     record { owned = λ d vs x. (c.owned ((SessionInside.the_type B g).to x.0) vs, tt); leaving = λ k d w. tt }
 
 pub locked_send : IsSend (Locked.the_field).row
-locked_send = struct_send (shape Locked.the_type) (seats.the_send, (search sendable, (search sendable, (search sendable, (core_send, tt)))))
+locked_send = struct_send (shape Locked.the_type) (seats.the_send, (search sendable, (search sendable, (search sendable depth 60, (core_send, tt)))))
 
 pub locked_sync : IsSync (Locked.the_field).row
-locked_sync = struct_sync (shape Locked.the_type) (seats.the_sync, (search sendable, (search sendable, (search sendable, (core_sync, tt)))))
+locked_sync = struct_sync (shape Locked.the_type) (seats.the_sync, (search sendable, (search sendable, (search sendable depth 60, (core_sync, tt)))))
 
 under_send : (B : RattleType) (g : BoardGhosts B.Denot) → IsSend (Under.the_row B g)
 under_send B g =
