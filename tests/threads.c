@@ -845,7 +845,7 @@ static void use_reads(void) {
 }
 
 static void use_readers(void) {
-    CHECK_BUSY(1, 1, VG_DONE, vgt_set(&one, &first, VG_TEXT("1")));
+    CHECK_BUSY(2, 1, VG_DONE, vgt_set(&one, &first, VG_TEXT("1")));
     CHECK(vgt_tstart(&one, NULL) == VG_DONE && vgt_tstart(&one, NULL) == VG_DONE && vgt_tcommit(&one, NULL) == VG_DONE);
     use_reads();
     CHECK(vgt_trestart(&one, NULL) == VG_RESTARTED);
