@@ -13,6 +13,9 @@ use std::test::*;
 // The turn that is handed to each call.
 const DUE: Turn = Turn::Due(64);
 
+// How often a node is set: more than 1,024 times, with which two nodes' older versions are many.
+const OFTEN: usize = 1100;
+
 // The turn that was handed to a hold of this line, once it was told so.
 fn turn_with<B: BoardName, R: Wait>(
     rt: &R,
@@ -63,8 +66,23 @@ fn has_dropped(turn: Option<Turn>, dropped: usize) -> bool {
     }
 }
 
-// Whether a turn behind a commit keeps what an open transaction sees, one behind a SET drops it once that is over, and
-// one is left to a later call where nothing was written since.
+// Whether job 1 sets a node again and again: so often that a turn pays.
+fn is_set_often<B: BoardName, R: Wait>(
+    rt: &R,
+    alloc: Global,
+    engine: &Shared<B>,
+    session: &mut Session<B>,
+) -> bool {
+    for _ in 0..OFTEN {
+        if !is_replied(rt, alloc, engine, session, "1 SET ^X=2", "0 ok\n") {
+            return false;
+        }
+    }
+    true
+}
+
+// Whether a turn is left to a later call where little lies there, one behind a commit keeps what an open transaction
+// sees, one behind a SET drops it once that is over, and one is left where nothing was written since.
 fn are_taken<B: BoardName, R: Wait>(
     rt: &R,
     alloc: Global,
@@ -72,13 +90,16 @@ fn are_taken<B: BoardName, R: Wait>(
     mine: &mut Session<B>,
     other: &mut Session<B>,
 ) -> bool {
-    is_replied(rt, alloc, engine, mine, "1 SET ^X=1", "0 ok\n")
+    turn_with(rt, alloc, engine, mine, "1 SET ^X=1", "ok") == Some(DUE)
         && is_replied(rt, alloc, engine, other, "2 TSTART", "0 level 1\n")
-        && is_replied(rt, alloc, engine, mine, "1 SET ^X=2", "0 ok\n")
+        && is_set_often(rt, alloc, engine, mine)
         && has_dropped(turn_with_commit(rt, alloc, engine, mine, "1 SET ^Y=1"), 0)
         && is_replied(rt, alloc, engine, other, "2 $GET(^X)", "0 1\n")
         && is_replied(rt, alloc, engine, other, "2 TROLLBACK", "0 ok\n")
-        && has_dropped(turn_with(rt, alloc, engine, mine, "1 SET ^X=3", "ok"), 2)
+        && has_dropped(
+            turn_with(rt, alloc, engine, mine, "1 SET ^X=3", "ok"),
+            OFTEN + 1,
+        )
         && turn_with(rt, alloc, engine, mine, "1 $GET(^X)", "3") == Some(DUE)
 }
 
