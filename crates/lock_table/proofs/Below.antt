@@ -1,30 +1,29 @@
 -- Who has a name or a descendant of it.
 use Rattle.std.proofs.Common.{◌≡◌, ◌<◌, ℕ, List, [], ◌∷◌, length, Bool, true, false, refl, sym, ap, subst, ◌∙◌, arith}
 use Rattle.std.specs.Bool.{beq}
-use Rattle.std.specs.Prelude.{◌==◌, ◌&&◌, not, nat_lt, Option, Some, None, IsSome, unwrap_or}
+use Rattle.std.specs.Prelude.{cond, ◌==◌, ◌&&◌, not, nat_lt, Option, Some, None, IsSome, unwrap_or}
 use Rattle.std.specs.declared.cmp.Ordering.{Ordering}
 use Rattle.std.specs.declared.cmp.Ordering.TheVariants.{Less, Equal, Greater}
-use Rattle.std.specs.declared.ops.Bound.TheVariants.{Included, Unbounded}
-use Rattle.std.specs.Ordering.{nat_cmp, is_gt}
-use Rattle.std.specs.Cmp.{nat_cmp_total, first_so, second_so}
-use Rattle.std.specs.Map.{lookup}
-use Rattle.std.specs.BTreeMap.{BTreeMap, is_at}
-use Rattle.std.specs.BTreeMap.Range.{IsRangeOf}
+use Rattle.std.specs.List.{find as first_of}
+use Rattle.std.specs.Ordering.{nat_cmp, is_lt, is_gt, eq_by_cmp, ordering_reverse}
+use Rattle.std.specs.Cmp.{nat_cmp_total, tied_itself, first_so, second_so}
 use Rattle.std.specs.FinMap as finmap
-use Rattle.std.specs.FinMap.{nat_cmp-IsAntisymmetric}
+use Rattle.std.specs.FinMap.{nat_cmp-IsAntisymmetric, is_sorted, find}
+use Rattle.std.specs.FinMap.Entries.{below_all}
 use Rattle.std.proofs.lemmas.Bool.{and_from, or_left, eq-eqb, lt-ltb, ltb-true}
 use Rattle.collation.specs.Reference.{Resource}
-use Rattle.collation.specs.laws.Entries.{some_entry_of, entry_of}
+use Rattle.collation.specs.laws.Entries.{true_of, some_entry_of, entry_of}
+use Rattle.collation.specs.laws.Order.{is_less}
 use Rattle.lock_name.specs.Locks.{resource_cmp, Counts, count_of, JobLocks, LockState, no_locks, locks_of}
 use Rattle.lock_name.specs.laws.Blocking.{differ}
-use Rattle.lock_name.specs.laws.Counting.{resource_cmp_total, resource_cmp-IsAntisymmetric}
+use Rattle.lock_name.specs.laws.Counting.{resource_cmp_total, resource_cmp-IsAntisymmetric, same_resource}
 use Rattle.lock_trie.specs.Names.{is_at_or_under}
 use Rattle.lock_trie.specs.Held.{Held, held_count, IsHeldBelow, IsHeldByAnother}
 use Rattle.lock_trie.specs.Holders.{counted}
-use Rattle.lock_trie.specs.laws.Conflicts.{entry_counted, Left, decided_true}
-use Rattle.lock_trie.specs.laws.Mapped.{seen}
+use Rattle.lock_trie.specs.laws.Conflicts.{entry_counted, AreThere, Left, decided_true}
 use Rattle.lock_trie.specs.laws.Unders.{under_not_above, under_between}
 use Rattle.lock_table.specs.Counted.{AreCounts, have_below}
+use Rattle.lock_table.proofs.Moving.{entries_there}
 use Rattle.lock_table.specs.Tables.{RowsMatchTrie, is_blocked_below}
 
 -- ---- in one job's counts
@@ -41,14 +40,79 @@ first_under n e q low high up = by_order (resource_cmp e q) refl high
     by_order Equal is h = subst (λ z. is_at_or_under n z ≡ true) (sym (resource_cmp-IsAntisymmetric e q is)) up
     by_order Greater is h = absurd (cc)
 
-pub have_first : (n : Resource) (m : BTreeMap Resource ℕ) (counts : Counts) (r es : List (Resource × ℕ)) (e : Resource × ℕ) (b : Bool) → finmap.from_entries m.entries ≡ counts → AreCounts counts → IsRangeOf resource_cmp (Included n) Unbounded m r → r ≡ e ∷ es → b ≡ is_at_or_under n e.0 → b ≡ have_below n counts
-have_first n m counts r es e b was are range is tested = tested ∙ by_tests (is_at_or_under n e.0) (have_below n counts) refl refl
+turned : (a b : Resource) → is_gt (resource_cmp b a) ≡ is_lt (resource_cmp a b)
+turned a b = ap is_gt (let o = resource_cmp_total in o.antisymm b a) ∙ by_order (resource_cmp a b)
   where
-    of_range : IsRangeOf resource_cmp (Included n) Unbounded m (e ∷ es)
-    of_range = subst (IsRangeOf resource_cmp (Included n) Unbounded m) is range
+    by_order : (o : Ordering) → is_gt (ordering_reverse o) ≡ is_lt o
+    by_order Less = refl
+    by_order Equal = refl
+    by_order Greater = refl
 
+not_before : (n q : Resource) → is_at_or_under n q ≡ true → is_lt (resource_cmp q n) ≡ false
+not_before n q under = sym (turned q n) ∙ under_not_above n q under
+
+abbrev is_from : Resource → Resource × ℕ → Bool
+is_from n e = not (is_lt (resource_cmp e.0 n))
+
+-- the first that doesn't stand before a name is there, and none of those stands before it
+first_there : (m : Counts) (n : Resource) (es : List (Resource × ℕ)) (e : Resource × ℕ) → AreThere m es → Some e ≡ first_of (is_from n) es → finmap.get m e.0 ≡ Some e.1
+first_there m n [] e all is = absurd (cc)
+first_there m n (f ∷ fs) e all is = by_test (is_from n f) is (first_there m n fs e all.1)
+  where
+    by_test : (b : Bool) → Some e ≡ cond b (Some f) (first_of (is_from n) fs) → (Some e ≡ first_of (is_from n) fs → finmap.get m e.0 ≡ Some e.1) → finmap.get m e.0 ≡ Some e.1
+    by_test true is rest = let s : f ≡ e = cc in subst (λ (z : Resource × ℕ). finmap.get m z.0 ≡ Some z.1) s all.0
+    by_test false is rest = rest is
+
+first_from : (n : Resource) (es : List (Resource × ℕ)) (e : Resource × ℕ) → Some e ≡ first_of (is_from n) es → is_lt (resource_cmp e.0 n) ≡ false
+first_from n [] e is = absurd (cc)
+first_from n (f ∷ fs) e is = by_test (is_lt (resource_cmp f.0 n)) refl is (first_from n fs e)
+  where
+    by_test : (b : Bool) → is_lt (resource_cmp f.0 n) ≡ b → Some e ≡ cond (not b) (Some f) (first_of (is_from n) fs) → (Some e ≡ first_of (is_from n) fs → is_lt (resource_cmp e.0 n) ≡ false) → is_lt (resource_cmp e.0 n) ≡ false
+    by_test false t is rest = let s : f ≡ e = cc in subst (λ (z : Resource × ℕ). is_lt (resource_cmp z.0 n) ≡ false) s t
+    by_test true t is rest = rest is
+
+behind_first : (k q : Resource) (es : List (Resource × ℕ)) → below_all resource_cmp k es ≡ true → IsSome (find resource_cmp q es) → is_gt (resource_cmp k q) ≡ false
+behind_first k q [] below there = absurd (cc)
+behind_first k q (f ∷ fs) below there = by_key (eq_by_cmp resource_cmp q f.0) refl there (behind_first k q fs (second_so (is_lt (resource_cmp k f.0)) _ below))
+  where
+    by_key : (b : Bool) → eq_by_cmp resource_cmp q f.0 ≡ b → IsSome (cond b (Some f.1) (find resource_cmp q fs)) → (IsSome (find resource_cmp q fs) → is_gt (resource_cmp k q) ≡ false) → is_gt (resource_cmp k q) ≡ false
+    by_key true t there rest = ap (λ z. is_gt (resource_cmp k z)) (same_resource q f.0 t) ∙ ap is_gt (is_less (resource_cmp k f.0) (first_so _ _ below))
+    by_key false t there rest = rest there
+
+first_least : (n q : Resource) (es : List (Resource × ℕ)) (e : Resource × ℕ) → is_sorted resource_cmp es ≡ true → Some e ≡ first_of (is_from n) es → IsSome (find resource_cmp q es) → is_lt (resource_cmp q n) ≡ false → is_gt (resource_cmp e.0 q) ≡ false
+first_least n q [] e h is there from = absurd (cc)
+first_least n q (f ∷ fs) e h is there from = by_test (is_lt (resource_cmp f.0 n)) refl is (eq_by_cmp resource_cmp q f.0) refl there (λ later found. first_least n q fs e (second_so (below_all resource_cmp f.0 fs) _ h) later found from)
+  where
+    by_test : (b : Bool) → is_lt (resource_cmp f.0 n) ≡ b → Some e ≡ cond (not b) (Some f) (first_of (is_from n) fs)
+        → (t : Bool) → eq_by_cmp resource_cmp q f.0 ≡ t → IsSome (cond t (Some f.1) (find resource_cmp q fs)) → (Some e ≡ first_of (is_from n) fs → IsSome (find resource_cmp q fs) → is_gt (resource_cmp e.0 q) ≡ false) → is_gt (resource_cmp e.0 q) ≡ false
+    by_test false before is true t there rest =
+        let s : f ≡ e = cc in
+        subst (λ (z : Resource × ℕ). is_gt (resource_cmp z.0 q) ≡ false) s (ap (λ z. is_gt (resource_cmp f.0 z)) (same_resource q f.0 t) ∙ ap is_gt (tied_itself resource_cmp_total f.0))
+    by_test false before is false t there rest =
+        let s : f ≡ e = cc in
+        subst (λ (z : Resource × ℕ). is_gt (resource_cmp z.0 q) ≡ false) s (behind_first f.0 q fs (first_so _ _ h) there)
+    by_test true before is true t there rest =
+        let clash : true ≡ false = sym before ∙ ap (λ z. is_lt (resource_cmp z n)) (sym (same_resource q f.0 t)) ∙ from in
+        absurd (cc)
+    by_test true before is false t there rest = rest is there
+
+none_from : (n q : Resource) (es : List (Resource × ℕ)) → None ≡ first_of (is_from n) es → IsSome (find resource_cmp q es) → is_lt (resource_cmp q n) ≡ false → ⊥
+none_from n q [] is there from = absurd (cc)
+none_from n q (f ∷ fs) is there from = by_test (is_lt (resource_cmp f.0 n)) refl is (eq_by_cmp resource_cmp q f.0) refl there (λ later found. none_from n q fs later found from)
+  where
+    by_test : (b : Bool) → is_lt (resource_cmp f.0 n) ≡ b → None ≡ cond (not b) (Some f) (first_of (is_from n) fs)
+        → (t : Bool) → eq_by_cmp resource_cmp q f.0 ≡ t → IsSome (cond t (Some f.1) (find resource_cmp q fs)) → (None ≡ first_of (is_from n) fs → IsSome (find resource_cmp q fs) → ⊥) → ⊥
+    by_test false before is t u there rest = absurd (cc)
+    by_test true before is true t there rest =
+        let clash : true ≡ false = sym before ∙ ap (λ z. is_lt (resource_cmp z n)) (sym (same_resource q f.0 t)) ∙ from in
+        absurd (cc)
+    by_test true before is false t there rest = rest is there
+
+first_tells : (n : Resource) (counts : Counts) (e : Resource × ℕ) → AreCounts counts → Some e ≡ first_of (is_from n) (finmap.entries counts) → is_at_or_under n e.0 ≡ have_below n counts
+first_tells n counts e are is = by_tests (is_at_or_under n e.0) (have_below n counts) refl refl
+  where
     there : finmap.get counts e.0 ≡ Some e.1
-    there = sym (ap (λ c. finmap.get c e.0) was) ∙ seen resource_cmp_total m.entries e.0 ∙ of_range.1.1
+    there = first_there counts n (finmap.entries counts) e (entries_there counts) is
 
     by_tests : (t h : Bool) → is_at_or_under n e.0 ≡ t → have_below n counts ≡ h → t ≡ h
     by_tests true true up have = refl
@@ -59,22 +123,24 @@ have_first n m counts r es e b was are range is tested = tested ∙ by_tests (is
     by_tests false true up have =
         let s = some_entry_of resource_cmp resource_cmp_total resource_cmp-IsAntisymmetric (is_below n) counts have in
         let under : is_at_or_under n s.0 ≡ true = second_so (nat_lt 0 s.1.0) _ s.1.2 in
-        let had : lookup (is_at (resource_cmp s.0)) m.entries ≡ Some s.1.0 = sym (seen resource_cmp_total m.entries s.0) ∙ ap (λ c. finmap.get c s.0) was ∙ s.1.1 in
-        let behind : is_gt (resource_cmp e.0 s.0) ≡ false = of_range.2 s.0 (under_not_above n s.0 under, tt) (subst IsSome (sym had) refl) in
-        let yes_ : is_at_or_under n e.0 ≡ true = first_under n e.0 s.0 of_range.1.0.0 behind under in
+        let behind : is_gt (resource_cmp e.0 s.0) ≡ false = first_least n s.0 (finmap.entries counts) e (true_of _ (finmap.entries_sorted counts)) is (subst IsSome (sym (sym (finmap.get-entries counts s.0) ∙ s.1.1)) refl) (not_before n s.0 under) in
+        let yes_ : is_at_or_under n e.0 ≡ true = first_under n e.0 s.0 (turned e.0 n ∙ first_from n (finmap.entries counts) e is) behind under in
         absurd (cc)
 
-pub have_none : (n : Resource) (m : BTreeMap Resource ℕ) (counts : Counts) (r : List (Resource × ℕ)) → finmap.from_entries m.entries ≡ counts → IsRangeOf resource_cmp (Included n) Unbounded m r → r ≡ [] → false ≡ have_below n counts
-have_none n m counts r was range is = by_test (have_below n counts) refl
+pub have_first : (n : Resource) (was now : Counts) (e : Resource × ℕ) (b : Bool) → was ≡ now → AreCounts was → Some e ≡ first_of (is_from n) (finmap.entries was) → b ≡ is_at_or_under n e.0 → b ≡ have_below n now
+have_first n was now e b same are is tested = tested ∙ first_tells n was e are is ∙ ap (have_below n) same
+
+none_tells : (n : Resource) (counts : Counts) → None ≡ first_of (is_from n) (finmap.entries counts) → false ≡ have_below n counts
+none_tells n counts is = by_test (have_below n counts) refl
   where
     by_test : (h : Bool) → have_below n counts ≡ h → false ≡ h
     by_test false have = refl
     by_test true have =
         let s = some_entry_of resource_cmp resource_cmp_total resource_cmp-IsAntisymmetric (is_below n) counts have in
-        let under : is_at_or_under n s.0 ≡ true = second_so (nat_lt 0 s.1.0) _ s.1.2 in
-        let had : lookup (is_at (resource_cmp s.0)) m.entries ≡ Some s.1.0 = sym (seen resource_cmp_total m.entries s.0) ∙ ap (λ c. finmap.get c s.0) was ∙ s.1.1 in
-        let none : lookup (is_at (resource_cmp s.0)) m.entries ≡ None = range.5 is s.0 (under_not_above n s.0 under, tt) in
-        absurd (cc)
+        absurd (none_from n s.0 (finmap.entries counts) is (subst IsSome (sym (sym (finmap.get-entries counts s.0) ∙ s.1.1)) refl) (not_before n s.0 (second_so (nat_lt 0 s.1.0) _ s.1.2)))
+
+pub have_none : (n : Resource) (was now : Counts) → was ≡ now → None ≡ first_of (is_from n) (finmap.entries was) → false ≡ have_below n now
+have_none n was now same is = none_tells n was is ∙ ap (have_below n) same
 
 -- ---- in the rows
 

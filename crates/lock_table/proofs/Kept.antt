@@ -2,7 +2,6 @@
 use Rattle.std.proofs.Common.{zero, suc, ◌≡◌, ◌<◌, ◌≤◌, ◌+◌, ℕ, List, [], ◌∷◌, length, Bool, true, false, refl, sym, ap, subst, ◌∙◌, arith}
 use Rattle.std.specs.Prelude.{cond, filter, ◌-◌, min}
 use Rattle.std.specs.Ordering.{eq_by_cmp}
-use Rattle.std.specs.FinMap as finmap
 use Rattle.collation.specs.Reference.{Resource}
 use Rattle.lock_name.specs.Locks.{resource_cmp, Counts, count_of, more_of, fewer_of}
 use Rattle.lock_name.specs.LockStatements.{times}
@@ -11,7 +10,6 @@ use Rattle.lock_trie.specs.Held.{Held, held_count}
 use Rattle.lock_table.specs.Counted.{AreCounts, AreLowered, is_listed}
 use Rattle.lock_table.specs.Rows.{IsHeldIn}
 use Rattle.lock_table.proofs.Lists.{unnamed_times}
-use Rattle.lock_table.proofs.Less.{no_count}
 
 pub kept_again : (t : Held) (job : ℕ) (old new : Counts) → new ≡ old → IsHeldIn t job old → IsHeldIn t job new
 kept_again t job old new is kept = subst (IsHeldIn t job) (sym is) kept

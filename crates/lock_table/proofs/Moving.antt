@@ -1,20 +1,21 @@
 -- Counts are raised or lowered, name by name.
 use Rattle.std.proofs.Common.{zero, suc, ◌≡◌, ◌<◌, ◌≤◌, ◌+◌, ℕ, List, [], ◌∷◌, length, take, drop, Bool, true, false, refl, sym, ap, subst, ◌∙◌, ◌⊎◌, inl, inr, arith}
-use Rattle.std.specs.Prelude.{cond, filter, ◌||◌, ◌-◌, max, min, Some, unwrap_or}
-use Rattle.std.specs.List.{All, list_any}
+use Rattle.std.specs.Prelude.{cond, filter, ◌||◌, ◌-◌, max, min, Some, None, unwrap_or}
+use Rattle.std.specs.List.{list_any}
 use Rattle.std.specs.Ordering.{is_eq, eq_by_cmp}
-use Rattle.std.specs.Cmp.{tied_itself}
-use Rattle.std.specs.Map.{lookup}
-use Rattle.std.specs.BTreeMap.{is_at}
+use Rattle.std.specs.Cmp.{tied_itself, first_so, second_so}
 use Rattle.std.specs.FinMap as finmap
+use Rattle.std.specs.FinMap.{is_sorted, find}
+use Rattle.std.specs.FinMap.Entries.{below_all}
 use Rattle.std.proofs.Math.Seq.{drop-cons}
 use Rattle.std.proofs.Math.ListN.{get_or}
 use Rattle.collation.specs.Reference.{Resource}
+use Rattle.collation.specs.laws.Entries.{true_of, not_found_itself, entry_of}
 use Rattle.lock_name.specs.Locks.{resource_cmp, Counts, count_of}
 use Rattle.lock_name.specs.LockStatements.{times}
 use Rattle.lock_name.specs.laws.Counting.{resource_cmp_total, resource_cmp-IsAntisymmetric, same_resource}
 use Rattle.lock_name.specs.laws.Zeros.{times_parted}
-use Rattle.lock_trie.specs.laws.Conflicts.{left_first, entry_counted, AreThere}
+use Rattle.lock_trie.specs.laws.Conflicts.{entry_counted, AreThere}
 use Rattle.lock_table.specs.Counted.{AreRaised, AreLowered, is_listed}
 use Rattle.lock_table.proofs.Lists.{once_itself}
 
@@ -22,11 +23,27 @@ abbrev pub is_key : Resource → Resource × ℕ → Bool
 is_key x e = eq_by_cmp resource_cmp x e.0
 
 -- what is counted stands among the entries
-pub key_among : (es : List (Resource × ℕ)) (m : Counts) → finmap.from_entries es ≡ m → All (λ e. lookup (is_at (resource_cmp e.0)) es ≡ Some e.1) es → (x : Resource) → 0 < count_of m x → list_any (is_key x) es ≡ true
-key_among es m was all x h =
+key_among : (m : Counts) (x : Resource) → 0 < count_of m x → list_any (is_key x) (finmap.entries m) ≡ true
+key_among m x h =
     let counted = entry_counted m x h in
-    let left = left_first resource_cmp_total resource_cmp-IsAntisymmetric (is_key x) es m was all in
-    left.passing x counted.0 counted.1 (ap is_eq (tied_itself resource_cmp_total x))
+    entry_of resource_cmp resource_cmp_total resource_cmp-IsAntisymmetric (is_key x) m x counted.0 counted.1 (ap is_eq (tied_itself resource_cmp_total x))
+
+all_in : (m : Counts) (es : List (Resource × ℕ)) → is_sorted resource_cmp es ≡ true → ((q : Resource) (v : ℕ) → find resource_cmp q es ≡ Some v → finmap.get m q ≡ Some v) → AreThere m es
+all_in m [] h there = tt
+all_in m (e ∷ es) h there = (
+    there e.0 e.1 (ap (λ r. cond (is_eq r) (Some e.1) (find resource_cmp e.0 es)) (tied_itself resource_cmp_total e.0)),
+    all_in m es (second_so (below_all resource_cmp e.0 es) _ h) (λ q v is. there q v (behind q v (eq_by_cmp resource_cmp q e.0) refl is)),
+  )
+  where
+    behind : (q : Resource) (v : ℕ) (b : Bool) → eq_by_cmp resource_cmp q e.0 ≡ b → find resource_cmp q es ≡ Some v → cond b (Some e.1) (find resource_cmp q es) ≡ Some v
+    behind q v true t is =
+        let none : None ≡ Some v = sym (not_found_itself resource_cmp resource_cmp_total resource_cmp-IsAntisymmetric e.0 es (first_so _ _ h)) ∙ ap (λ z. find resource_cmp z es) (sym (same_resource q e.0 t)) ∙ is in
+        absurd (cc)
+    behind q v false t is = is
+
+-- each entry is what the counts have
+pub entries_there : (m : Counts) → AreThere m (finmap.entries m)
+entries_there m = all_in m (finmap.entries m) (true_of _ (finmap.entries_sorted m)) (λ q v is. finmap.get-entries m q ∙ is)
 
 abbrev pub RaisedOne : (Resource → ℕ) → (Resource → ℕ) → Resource → ℕ → Type 0
 RaisedOne now next n v = (x : Resource) → next x ≡ cond (eq_by_cmp resource_cmp x n) (max (now n) v) (now x)
@@ -151,8 +168,8 @@ pub record Sinking (old now target : Resource → ℕ) (over : Counts) (rest : L
   pub lowered : AreLowered old now target
   pub reaching : (x : Resource) → 0 < count_of over x → (now x ≤ target x) ⊎ (list_any (is_key x) rest ≡ true)
 
-pub sinking_first : (es : List (Resource × ℕ)) (old target : Resource → ℕ) (over : Counts) → finmap.from_entries es ≡ over → All (λ e. lookup (is_at (resource_cmp e.0)) es ≡ Some e.1) es → Sinking old old target over es
-sinking_first es old target over was all = record { lowered = lowered_first old target; reaching = λ x h. inr (key_among es over was all x h) }
+pub sinking_first : (old target : Resource → ℕ) (over : Counts) → Sinking old old target over (finmap.entries over)
+sinking_first old target over = record { lowered = lowered_first old target; reaching = λ x h. inr (key_among over x h) }
 
 pub sinking_next : (old now next target : Resource → ℕ) (over : Counts) (e : Resource × ℕ) (fs rest : List (Resource × ℕ)) (v : ℕ) → rest ≡ e ∷ fs → v ≡ target e.0 → LoweredOne now next e.0 v → Sinking old now target over rest → Sinking old next target over fs
 sinking_next old now next target over e fs rest v is v_is one sinking = record {

@@ -1,5 +1,5 @@
 -- One job's counts after each form of LOCK, a commit and a rollback.
-use Rattle.std.proofs.Common.{◌≡◌, ◌≤◌, ◌+◌, ℕ, List, Bool, true, false, refl, sym, ap, subst, ◌∙◌, arith}
+use Rattle.std.proofs.Common.{◌≡◌, ◌≤◌, ◌+◌, List, Bool, true, false, refl, sym, ap, subst, ◌∙◌, arith}
 use Rattle.std.specs.Prelude.{◌-◌, cond, max, Option, Some, None, is_some}
 use Rattle.std.specs.List.{list_any}
 use Rattle.std.specs.FinMap as finmap
@@ -9,7 +9,7 @@ use Rattle.lock_name.specs.LockStatements.{times}
 use Rattle.lock_name.specs.laws.Counting.{counts_tell}
 use Rattle.lock_name.specs.laws.Zeros.{none_greater, none_more, none_fewer, same_counts, all_taken_back}
 use Rattle.lock_table.specs.Counted.{less, is_over}
-use Rattle.lock_table.specs.Rows.{AreWithin, want_of, told_by, asked, want_by, inside_locks, locks_in, is_full_by}
+use Rattle.lock_table.specs.Rows.{AreWithin, want_of, told_by, asked, want_by, inside_locks, locks_in, IsWithin, is_full_by}
 use Rattle.lock_table.specs.declared.row.Form.{Form}
 use Rattle.lock_table.specs.declared.row.Form.TheVariants.{More}
 use Rattle.lock_table.specs.declared.wanted.Wanted.{Wanted}
@@ -144,6 +144,10 @@ less_none h n none is = same_counts (less h n) h (none_less h n none) none (λ x
 pub not_inside : (inside : Option Inside) → false ≡ is_some inside → inside ≡ None
 not_inside None e = refl
 not_inside (Some i) e = absurd (cc)
+
+pub within_outside : (held : Counts) (inside : Option Inside) → inside ≡ None → IsWithin held inside
+within_outside held None e = tt
+within_outside held (Some i) e = absurd (cc)
 
 pub within_none : (held t a : Counts) → t ≡ finmap.empty → a ≡ finmap.empty → AreWithin held t a
 within_none held t a t_is a_is = record {

@@ -1,7 +1,6 @@
 -- What a job wants, told by what it holds.
-use Rattle.std.proofs.Common.{◌≡◌, ◌≤◌, ◌+◌, ℕ, List, Bool, true, refl, sym, ap, subst, ◌∙◌, arith}
+use Rattle.std.proofs.Common.{◌≡◌, ◌≤◌, ◌+◌, List, true, refl, sym, ap, subst, ◌∙◌, arith}
 use Rattle.std.specs.Prelude.{◌-◌, min}
-use Rattle.std.specs.FinMap as finmap
 use Rattle.collation.specs.Reference.{Resource}
 use Rattle.lock_name.specs.Locks.{Counts, count_of, more_of, fewer_of, HasNoZeros}
 use Rattle.lock_name.specs.LockStatements.{times}

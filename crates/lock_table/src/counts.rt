@@ -11,11 +11,11 @@ ghost use Rattle.lock_table.specs.Counted.{AreCounts, AreRaised, AreLowered, hav
 ghost use Rattle.lock_table.specs.Rows.{IsHeldIn, AreOthersSame};
 
 use crate::moves::lower;
+use btree::Trail;
 use lock_name::LockName;
-use lock_trie::{LockTrie, is_at_or_under};
+use lock_trie::{LockTrie, NameMap, is_at_or_under};
 use refusal::Refusal;
 use std::alloc::{AllocError, Global};
-use std::collections::BTreeMap;
 use std::marker::Model;
 
 /// The highest count of a name.
@@ -24,12 +24,11 @@ pub const MOST: u32 = 65_535;
 /// How many times each lock name is had. A name that is had no time has no entry.
 #[derive(Drop)]
 pub struct Counts {
-    map: BTreeMap<LockName, u32>,
+    map: NameMap<u32>,
     alloc: Global,
 }
 
 impl Model for Counts {
-    ghost use Rattle.std.specs.FinMap as finmap;
     ghost use Rattle.lock_table.specs.Codes.{counts_code};
     ghost use Rattle.lock_table.specs.Counted.{AreCounts};
     ghost use Rattle.lock_name.specs.Locks as locks;
@@ -38,9 +37,9 @@ impl Model for Counts {
 
     ghost coded = { counts_code };
 
-    ghost view = { λ c. finmap.from_entries c.map.entries };
+    ghost view = { λ c. c.map };
 
-    ghost invariant = { λ c. AreCounts (finmap.from_entries c.map.entries) };
+    ghost invariant = { λ c. AreCounts c.map };
 }
 
 impl Counts {
@@ -49,7 +48,7 @@ impl Counts {
         ensures { result ≡ finmap.empty }
     {
         Counts {
-            map: BTreeMap::new(alloc),
+            map: NameMap::new(alloc),
             alloc,
         }
     }
@@ -61,52 +60,53 @@ impl Counts {
         let _ = &self.map;
     }
 
+    /// How many times this name is had, and where its look-up went.
+    fn look_up(&self, name: &LockName) -> (u32, Trail)
+        ensures count { result.0 ≡ count_of self.now name.now }
+        ensures small { result.0 ≤ most_locks }
+    {
+        let (found, trail) = self.map.look_up(name);
+        match found {
+            Some(count) => (*count, trail),
+            None => (0, trail),
+        }
+    }
+
     /// How many times this name is had.
     pub fn count(&self, name: &LockName) -> u32
         ensures count { result ≡ count_of self.now name.now }
         ensures small { result ≤ most_locks }
     {
-        match self.map.get(name) {
-            Some(count) => *count,
-            None => 0,
-        }
+        self.look_up(name).0
     }
 
     /// A copy of the counts.
     pub fn copy(&self) -> Result<Counts, AllocError>
         ensures { IfOk result (λ counts. counts ≡ self.now) }
     {
-        let map = self.map.clone()?;
+        let map = self.map.copy(self.alloc)?;
         Ok(Counts {
             map,
             alloc: self.alloc,
         })
     }
 
-    /// This name is had n times; answers how many times it was had. A refusal leaves the counts as they were.
-    fn put(&mut self, name: &LockName, n: u32) -> Result<u32, AllocError>
+    /// This name is had n times. The trail is that of its look-up. A refusal leaves the counts as they were.
+    fn put(&mut self, name: &LockName, n: u32, trail: &Trail) -> Result<(), AllocError>
         requires small { n ≤ most_locks }
         requires some { 0 < n }
         ensures ok { OnOk result (self.new ≡ finmap.insert self.old name.now n) }
-        ensures before { IfOk result (λ before. before ≡ count_of self.old name.now) }
-        ensures small { IfOk result (λ before. before ≤ most_locks) }
         ensures err { OnErr result (self.new ≡ self.old) }
     {
         let key = name.clone()?;
-        match self.map.insert(key, n) {
-            Ok(before) => Ok(before.unwrap_or(0)),
-            Err(failed) => {
-                drop(failed);
-                Err(AllocError)
-            }
-        }
+        self.map.insert_by(self.alloc, key, n, trail)
     }
 
     /// This name is had no time.
     fn remove(&mut self, name: &LockName)
         ensures { self.new ≡ finmap.remove self.old name.now }
     {
-        self.map.remove(name);
+        drop(self.map.remove(name));
     }
 
     /// This name, which is had, is had n times. Takes no memory.
@@ -116,13 +116,12 @@ impl Counts {
         requires had { 0 < count_of self.old name.now }
         ensures { self.new ≡ finmap.insert self.old name.now n }
     {
-        if let Some(count) = self.map.get_mut(name) {
-            *count = n;
-        }
+        drop(self.map.replace(name, n));
     }
 
-    /// This name, which is had count times, is had n times: only a name that wasn't had takes memory.
-    fn set(&mut self, name: &LockName, count: u32, n: u32) -> Result<(), AllocError>
+    /// This name, which is had count times, is had n times: only a name that wasn't had takes memory. The trail is that of its
+    /// look-up.
+    fn set(&mut self, name: &LockName, count: u32, n: u32, trail: &Trail) -> Result<(), AllocError>
         requires small { n ≤ most_locks }
         requires some { 0 < n }
         requires is { count ≡ count_of self.old name.now }
@@ -130,35 +129,27 @@ impl Counts {
         ensures err { OnErr result (self.new ≡ self.old) }
     {
         if count == 0 {
-            match self.put(name, n) {
-                Ok(_) => Ok(()),
-                Err(refused) => Err(refused),
-            }
+            self.put(name, n, trail)
         } else {
             self.change(name, n);
             Ok(())
         }
     }
 
-    /// One more of this name: a name that wasn't had is looked up once.
+    /// One more of this name.
     fn add_one(&mut self, name: &LockName) -> Result<(), Refusal>
         ensures ok { OnOk result (self.new ≡ finmap.insert self.old name.now (count_of self.old name.now + 1)) }
         ensures err { OnErr result (self.new ≡ self.old) }
         ensures full { IfErr result (λ refusal. (refusal ≡ Refusal.OutOfMemory) ⊎ ((refusal ≡ Refusal.LockCountFull) × (most_locks ≤ count_of self.old name.now))) }
     {
-        let count = match self.put(name, 1) {
-            Ok(count) => count,
-            Err(_) => return Err(Refusal::OutOfMemory),
-        };
-        if count == 0 {
-            return Ok(());
-        }
+        let (count, trail) = self.look_up(name);
         if count >= MOST {
-            self.change(name, count);
             return Err(Refusal::LockCountFull);
         }
-        self.change(name, count + 1);
-        Ok(())
+        match self.set(name, count, count + 1, &trail) {
+            Ok(()) => Ok(()),
+            Err(_) => Err(Refusal::OutOfMemory),
+        }
     }
 
     /// One fewer of this name. Takes no memory.
@@ -221,9 +212,9 @@ impl Counts {
         ensures ok { OnOk result ((x : Resource) → count_of self.new x ≡ (if eq_by_cmp resource_cmp x name.now then max (count_of self.old name.now) n else count_of self.old x)) }
         ensures err { OnErr result (self.new ≡ self.old) }
     {
-        let count = self.count(name);
+        let (count, trail) = self.look_up(name);
         if n > count {
-            self.set(name, count, n)
+            self.set(name, count, n, &trail)
         } else {
             Ok(())
         }
@@ -312,14 +303,14 @@ impl Counts {
     pub fn is_empty(&self) -> bool
         ensures { result ≡ true → (x : Resource) → count_of self.now x ≡ 0 }
     {
-        self.map.is_empty()
+        self.map.len() == 0
     }
 
     /// Whether this name is had, or a descendant of it: a look at the first that doesn't stand before it.
     pub fn have_below(&self, name: &LockName) -> bool
         ensures { result ≡ have_below name.now self.now }
     {
-        match self.map.range(name..).next() {
+        match self.map.first_from(name) {
             Some((had, _)) => is_at_or_under(had, name),
             None => false,
         }

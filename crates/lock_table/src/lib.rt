@@ -39,13 +39,15 @@
 //! at once. A LOCK inside, of any form, costs what it names. A commit costs what was given back in the transaction or,
 //! after a LOCK without a sign, what the job holds, and so does such a LOCK outside; a rollback costs what was added.
 //!
+//! Counts lie in the trie's own kind of map, `NameMap` (`counts.rt`): after names in order its rows are nearly full.
+//!
 //! Whether a name is blocked the trie tells, by looks at the held names below it while they are the job's own. After as many
 //! of these as there are rows each other row is asked instead, for the first name that it holds from there on: so a lock of a
 //! table costs its job looks for each job with a row, however many names below it the job holds itself.
 //!
 //! `check` looks at the counts of the names that are asked for; `reply` takes no memory.
 //!
-//! Read `specs/Rows.antt`, then `table.rt`, `command.rt`, `row.rt`, `inside.rt`, `wanted.rt`, `moves.rt`.
+//! Read `specs/Rows.antt`, then `table.rt`, `command.rt`, `row.rt`, `inside.rt`, `wanted.rt`, `moves.rt`, `counts.rt`.
 //! Not promised: any time.
 #![tactic(auto)]
 

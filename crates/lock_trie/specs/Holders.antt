@@ -1,5 +1,5 @@
 -- Who holds one name.
-use Rattle.std.specs.Prelude.{◌≡◌, ◌<◌, ◌≤◌, ℕ, Bool, not, ◌==◌, List, [], ◌∷◌, length, take, Option, None, Some, unwrap_or, slice_index_or, if◌then◌else◌}
+use Rattle.std.specs.Prelude.{◌≡◌, ◌<◌, ◌≤◌, ℕ, zero, suc, Bool, not, ◌==◌, List, [], ◌∷◌, length, take, Option, None, Some, unwrap_or, slice_index_or, if◌then◌else◌}
 use Rattle.std.specs.List.{list_any}
 use Rattle.std.specs.Ordering.{nat_cmp, eq_by_cmp}
 use Rattle.std.specs.FinMap.Entries.{find}
@@ -21,6 +21,11 @@ AreHolders (h ∷ hs) = (find nat_cmp h.0 hs ≡ None) × ((0 < h.1) × (h.1 ≤
 -- and somebody is
 abbrev pub IsEntry : List (ℕ × ℕ) → Type 0
 IsEntry hs = (0 < length hs) × AreHolders hs
+
+-- this job so many times, or no job where that is none
+abbrev pub one_of : ℕ → ℕ → List (ℕ × ℕ)
+one_of job zero = []
+one_of job (suc n) = (job, suc n) ∷ []
 
 -- the entry of a name with these holders: none where nobody holds it
 abbrev pub entry_of : List (ℕ × ℕ) → Option (List (ℕ × ℕ))

@@ -8,7 +8,8 @@
 //! |---|---|---|---|
 //! | `LockTrie` | | who holds what | `trie.rt` |
 //! | `NameMap` | the lock name, in the order of names | a value; a B-tree (`btree`) | `map.rt` |
-//! | `Holders` | the job | its count; two jobs lie in the value itself | `holders.rt` |
+//! | `Holders` | the job | its count; one job lies in the value itself | `holders.rt` |
+//! | `Several` | the job | its count, where there are more jobs than one | `several.rt` |
 //!
 //! Only held names have entries, none for their beginnings. In the order of names what a name begins stands behind it in a
 //! row: what is held at and below a name are the entries from it on that begin with it. What lies between a name and its
@@ -32,14 +33,18 @@
 //! With `^A(1)`, `^A(1,2)` and `^A(3)` held, `^A(1)` is told by the first two; of `^A(1,2,7)` the entry before is `^A(1,2)`,
 //! which begins as it does up to two subscripts, so that `^A`, `^A(1)` and `^A(1,2)` are looked up.
 //!
-//! Read `specs/Held.antt`, then `trie.rt`, `names.rt`, `map.rt`, `holders.rt`.
+//! `NameMap` is for others too: `lock_table` keeps each job's counts in it.
+//!
+//! Read `specs/Held.antt`, then `trie.rt`, `names.rt`, `map.rt`, `holders.rt`, `several.rt`.
 //! Not promised: any time.
 #![tactic(auto)]
 
+pub use map::NameMap;
 pub use names::is_at_or_under;
 pub use trie::LockTrie;
 
 mod holders;
 mod map;
 mod names;
+mod several;
 mod trie;

@@ -1,6 +1,7 @@
 //! Values by lock name.
-ghost use Rattle.std.specs.Prelude.{◌≡◌, length, not, filter, None, Some, IfOk, IfErr, IfNone, IfSome, OnErr};
-ghost use Rattle.std.specs.Option.{option_copied};
+ghost use Rattle.std.specs.Prelude.{◌≡◌, length, not, filter, None, Some, IfOk, IfErr, IfNone, IfSome, OnOk, OnErr};
+ghost use Rattle.std.specs.Option.{option_copied, option_map};
+ghost use Rattle.std.specs.List.{find};
 ghost use Rattle.std.specs.Ordering.{is_lt};
 ghost use Rattle.std.specs.FinMap as finmap;
 ghost use Rattle.lock_name.specs.Locks.{resource_cmp};
@@ -66,7 +67,7 @@ impl<X> NameMap<X> {
     }
 
     /// The value of a beginning, where it is a name that has one.
-    pub fn at_beginning(&self, beginning: &Beginning<'_>) -> Option<&X>
+    pub(crate) fn at_beginning(&self, beginning: &Beginning<'_>) -> Option<&X>
         ensures { option_copied result ≡ finmap.get self.now beginning.now }
     {
         match self.tree.first_from(beginning).0 {
@@ -83,7 +84,7 @@ impl<X> NameMap<X> {
 
     /// The last name that stands before this one. Each name of the map that is a shorter beginning of this one is one of it
     /// too, since what lies between a name and its beginning begins so. Where there is none no name is such a beginning.
-    pub fn last_before(&self, name: &LockName) -> Option<&LockName>
+    pub(crate) fn last_before(&self, name: &LockName) -> Option<&LockName>
         ensures some { IfSome result (λ before. HaveSameAbove self.now name.now before.now) }
         ensures none { IfNone result (HasNoneAbove self.now name.now) }
     {
@@ -91,6 +92,13 @@ impl<X> NameMap<X> {
             Some((before, _)) => Some(before),
             None => None,
         }
+    }
+
+    /// The first name that doesn't stand before this one, and its value.
+    pub fn first_from(&self, name: &LockName) -> Option<(&LockName, &X)>
+        ensures { option_map (λ e. (e.0.now, e.1.now)) result ≡ find (λ e. not (is_lt (resource_cmp e.0 name.now))) (finmap.entries self.now) }
+    {
+        self.tree.first_from(&Whole { name }).0
     }
 
     /// The names that don't stand before this one with their values, in order.
@@ -145,5 +153,36 @@ impl<X: Drop> NameMap<X> {
         ensures map { self.new ≡ finmap.remove self.old name.now }
     {
         self.tree.remove(name)
+    }
+}
+
+impl<X: Copy + Drop> NameMap<X> {
+    // Sets the value of a name. The trail tells where the name before it went, and then where this one did.
+    fn push(
+        &mut self,
+        alloc: Global,
+        name: &LockName,
+        value: X,
+        trail: &mut Trail,
+    ) -> Result<(), AllocError>
+        ensures { OnOk result (self.new ≡ finmap.insert self.old name.now value) }
+    {
+        let key = name.clone()?;
+        if !self.tree.misses_beside(name, trail) {
+            *trail = self.look_up(name).1;
+        }
+        self.insert_by(alloc, key, value, trail)
+    }
+
+    /// A copy, made in the order of names: a few comparisons tell where the next one goes. Refused where there is no memory.
+    pub fn copy(&self, alloc: Global) -> Result<NameMap<X>, AllocError>
+        ensures { IfOk result (λ copy. copy ≡ self.now) }
+    {
+        let mut copy = NameMap::new(alloc);
+        let mut trail = Trail::new();
+        for (name, value) in self.iter() {
+            copy.push(alloc, name, *value, &mut trail)?;
+        }
+        Ok(copy)
     }
 }

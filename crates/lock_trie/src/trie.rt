@@ -100,12 +100,12 @@ impl LockTrie {
         let (found, trail) = self.map.look_up(name);
         match found {
             Some(holders) => {
-                let more = holders.more(job, n)?;
+                let more = holders.more(self.alloc, job, n)?;
                 self.change(name, more);
                 Ok(())
             }
             None => {
-                let holders = Holders::of_one(self.alloc, job, n)?;
+                let holders = Holders::of_one(job, n);
                 self.put(name, holders, &trail)
             }
         }
@@ -115,7 +115,7 @@ impl LockTrie {
     pub fn take_away(&mut self, job: u16, name: &LockName, n: u32)
         ensures { IsRecounted self.old self.new job name.now (held_count self.old job name.now - n) }
     {
-        match self.map.replace(name, Holders::none(self.alloc)) {
+        match self.map.replace(name, Holders::none()) {
             Ok(mut holders) => {
                 holders.take(job, n);
                 settle(&mut self.map, name, holders);
@@ -221,7 +221,7 @@ fn push_copy(
     ensures { OnOk result (map.new ≡ finmap.insert map.old name.now holders.now) }
 {
     let key = name.clone()?;
-    let copy = holders.copy()?;
+    let copy = holders.copy(alloc)?;
     let (_, trail) = map.look_up(name);
     map.insert_by(alloc, key, copy, &trail)
 }

@@ -1,16 +1,17 @@
+use Rattle.std.proofs.Common.{sym, ap, subst, ◌∙◌}
+use Rattle.std.specs.FinMap as finmap
 use Rattle.lock_name.specs.Locks.{count_of}
-use Rattle.lock_name.specs.laws.Counting.{resource_cmp_total}
 use Rattle.lock_trie.specs.Held.{held_count}
-use Rattle.lock_trie.specs.laws.Conflicts.{all_there}
-use Rattle.lock_table.proofs.Moving.{sinking_first, sinking_next, given_to, gives, gives_next, given_all}
+use Rattle.lock_trie.specs.laws.Conflicts.{AreThere}
+use Rattle.lock_table.proofs.Moving.{Sinking, entries_there, sinking_first, sinking_next, given_to, gives, gives_next, given_all}
 use Rattle.lock_table.proofs.counts.Counts.give.Goals as goal
 
 pub loop-name-init : goal.loop-name-init
 loop-name-init c = record {
   can = tt;
   finite = tt;
-  there = rw (c.into_iter-name-iterator.ensures.into_iter_gives, c.iter-name-items.ensures.rest) (all_there resource_cmp_total c.others.inside.map.entries c.others.inside.map.entries c.args.others.now c.others.view_is c.iter-name-items.ensures.found);
-  sinking = rw (c.into_iter-name-iterator.ensures.into_iter_gives, c.iter-name-items.ensures.rest) (sinking_first c.others.inside.map.entries (count_of c.args.self.now) (given_to (held_count c.args.trie.now c.args.job) c.args.others.now) c.args.others.now c.others.view_is c.iter-name-items.ensures.found);
+  there = subst (AreThere c.args.others.now) (sym (c.into_iter-name-iterator.ensures.into_iter_gives ∙ c.iter-name-items.ensures ∙ ap finmap.entries c.others.view_is)) (entries_there c.args.others.now);
+  sinking = subst (Sinking (count_of c.args.self.now) (count_of c.args.self.now) (given_to (held_count c.args.trie.now c.args.job) c.args.others.now) c.args.others.now) (sym (c.into_iter-name-iterator.ensures.into_iter_gives ∙ c.iter-name-items.ensures ∙ ap finmap.entries c.others.view_is)) (sinking_first (count_of c.args.self.now) (given_to (held_count c.args.trie.now c.args.job) c.args.others.now) c.args.others.now);
 }
 
 pub loop-name-preserved : goal.loop-name-preserved

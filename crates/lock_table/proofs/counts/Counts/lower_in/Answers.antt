@@ -1,7 +1,8 @@
-use Rattle.std.proofs.Common.{refl}
+use Rattle.std.proofs.Common.{refl, sym, ap, subst, ◌∙◌}
+use Rattle.std.specs.FinMap as finmap
 use Rattle.lock_name.specs.Locks.{count_of}
 use Rattle.lock_trie.specs.Held.{held_count}
-use Rattle.lock_table.proofs.Moving.{sinking_first, sinking_next, sunk}
+use Rattle.lock_table.proofs.Moving.{Sinking, sinking_first, sinking_next, sunk}
 use Rattle.lock_table.proofs.Trie.{at_job, at_other}
 use Rattle.lock_table.proofs.counts.Counts.lower_in.Goals as goal
 
@@ -10,7 +11,9 @@ loop-name-init c = record {
   can = tt;
   finite = tt;
   others = λ other x apart. refl;
-  sinking = rw (c.into_iter-name-iterator.ensures.into_iter_gives, c.iter-name-items.ensures.rest) (sinking_first c.self.inside.map.entries (held_count c.args.trie.now c.args.job) (count_of c.args.held.now) c.args.self.now c.self.view_is c.iter-name-items.ensures.found);
+  sinking = subst (Sinking (held_count c.args.trie.now c.args.job) (held_count c.args.trie.now c.args.job) (count_of c.args.held.now) c.args.self.now)
+      (sym (c.into_iter-name-iterator.ensures.into_iter_gives ∙ c.iter-name-items.ensures ∙ ap finmap.entries c.self.view_is))
+      (sinking_first (held_count c.args.trie.now c.args.job) (count_of c.args.held.now) c.args.self.now);
 }
 
 pub loop-name-preserved : goal.loop-name-preserved

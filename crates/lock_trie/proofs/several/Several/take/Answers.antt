@@ -1,7 +1,7 @@
 use Rattle.std.proofs.Common.{◌≤◌, ◌<◌, ◌-◌, slice_index_or, arith}
 use Rattle.lock_trie.specs.Holders.{counted}
 use Rattle.lock_trie.proofs.Holding.{IsLeft, written, count_now, small_now, left_put, left_without}
-use Rattle.lock_trie.proofs.holders.Holders.take.Goals as goal
+use Rattle.lock_trie.proofs.several.Several.take.Goals as goal
 
 left : (c : goal.After-self-1) → IsLeft c.args.self.now (written c.self.inside.list.items c.deref_mut.result.now c.in-Some.i ((slice_index_or c.deref_mut.result.now c.in-Some.i (0, 0)).1 - c.args.n)) c.args.job (counted c.args.self.now c.args.job - c.args.n)
 left c =

@@ -2,7 +2,7 @@ use Rattle.std.proofs.Common.{◌≡◌, ◌+◌, take, suc, subst, None, arith}
 use Rattle.std.specs.Ordering.{nat_cmp}
 use Rattle.std.specs.FinMap.Entries.{find}
 use Rattle.lock_trie.proofs.Holding.{none_yet}
-use Rattle.lock_trie.proofs.holders.place.Goals as goal
+use Rattle.lock_trie.proofs.several.place.Goals as goal
 
 pub loop-i-preserved : goal.loop-i-preserved
 loop-i-preserved c = record {

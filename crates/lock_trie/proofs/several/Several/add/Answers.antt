@@ -1,7 +1,7 @@
 use Rattle.std.proofs.Common.{◌≡◌, ◌≤◌, ◌<◌, ◌+◌, slice_index_or, refl, arith}
 use Rattle.lock_trie.specs.Holders.{counted}
 use Rattle.lock_trie.proofs.Holding.{IsLeft, written, count_now, left_put, left_added, some_left}
-use Rattle.lock_trie.proofs.holders.Holders.add.Goals as goal
+use Rattle.lock_trie.proofs.several.Several.add.Goals as goal
 
 is_now : (c : goal.After-self-1) → (slice_index_or c.deref_mut.result.now c.in-Some.i (0, 0)).1 ≡ counted c.args.self.now c.args.job
 is_now c = count_now c.self.inside.list.items c.deref.result.now c.deref_mut.result.now c.args.self.now c.args.job c.in-Some.i c.deref.ensures c.deref_mut.ensures.value c.self.view_is c.in-Some.ensures.some c.self.invariant
