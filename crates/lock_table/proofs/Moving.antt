@@ -31,9 +31,9 @@ key_among m x h =
 all_in : (m : Counts) (es : List (Resource × ℕ)) → is_sorted resource_cmp es ≡ true → ((q : Resource) (v : ℕ) → find resource_cmp q es ≡ Some v → finmap.get m q ≡ Some v) → AreThere m es
 all_in m [] h there = tt
 all_in m (e ∷ es) h there = (
-    there e.0 e.1 (ap (λ r. cond (is_eq r) (Some e.1) (find resource_cmp e.0 es)) (tied_itself resource_cmp_total e.0)),
-    all_in m es (second_so (below_all resource_cmp e.0 es) _ h) (λ q v is. there q v (behind q v (eq_by_cmp resource_cmp q e.0) refl is)),
-  )
+  there e.0 e.1 (ap (λ r. cond (is_eq r) (Some e.1) (find resource_cmp e.0 es)) (tied_itself resource_cmp_total e.0)),
+  all_in m es (second_so (below_all resource_cmp e.0 es) _ h) (λ q v is. there q v (behind q v (eq_by_cmp resource_cmp q e.0) refl is)),
+)
   where
     behind : (q : Resource) (v : ℕ) (b : Bool) → eq_by_cmp resource_cmp q e.0 ≡ b → find resource_cmp q es ≡ Some v → cond b (Some e.1) (find resource_cmp q es) ≡ Some v
     behind q v true t is =
