@@ -36,7 +36,8 @@ impl<'a, B: BoardName, R, G> Drop for Calls<'a, B, R, G> {
 
 impl<'a, B: BoardName, R: Wait, G: Gate> Calls<'a, B, R, G> {
     /// The reply to a command of a session, but for HALT. `millis` is a LOCK's timeout; without one it isn't replied
-    /// that it was blocked. An outermost TCOMMIT takes a turn that is due. Each try is a step of the session.
+    /// that it was blocked. An outermost TCOMMIT takes a turn that is due, where it pays. Each try is a step of the
+    /// session.
     pub(crate) fn reply_to(
         &self,
         session: &mut Session<B>,

@@ -1,6 +1,6 @@
 -- What is asked and told side by side: one more, and one less.
-use Rattle.std.proofs.Common.{◌≡◌, ℕ, ◌+◌, ◌-◌, ◌≤◌, List, [], ◌∷◌, ◌++◌, length, take, drop, refl, sym, ap, ◌∙◌, subst, append_assoc, append-nil, length-append, drop-drop, drop_at, arith}
-use Rattle.std.specs.Prelude.{Result, Ok, Err, IfOk, OnOk, OnErr}
+use Rattle.std.proofs.Common.{◌≡◌, ℕ, zero, suc, ◌+◌, ◌-◌, ◌≤◌, List, [], ◌∷◌, ◌++◌, length, take, drop, refl, sym, ap, ◌∙◌, subst, append_assoc, append-nil, length-append, drop-drop, drop_at, arith}
+use Rattle.std.specs.Prelude.{map, Result, Ok, Err, IfOk, OnOk, OnErr}
 use Rattle.std.proofs.lemmas.List.{drop-append-le, length-drop, take_at}
 use Rattle.refusal.specs.declared.Refusal.{Refusal}
 use Rattle.collation.specs.Reference.{Reference}
@@ -102,6 +102,29 @@ one_there asks rest keys texts whole tag h = there whole (subst (λ (xs : List A
     there : (whole : List DataCommand) → AreJust (ask_other ∷ rest) keys texts whole → 1 ≤ length whole
     there [] h = absurd h
     there (command ∷ whole) h = omega arith
+
+-- neither a value to set nor a whole command is left: they are $GETs
+gets_alone : (asks : List Ask) (keys : List Reference) → AreJust asks keys [] [] → commands_of asks keys [] [] ≡ map get_of keys
+gets_alone [] keys h = rw h.0 refl
+gets_alone (ask_set ∷ asks) [] h = absurd h
+gets_alone (ask_set ∷ asks) (key ∷ keys) h = absurd h
+gets_alone (ask_get ∷ asks) [] h = absurd h
+gets_alone (ask_get ∷ asks) (key ∷ keys) h = ap (λ (cs : List DataCommand). get_of key ∷ cs) (gets_alone asks keys h)
+gets_alone (ask_other ∷ asks) keys h = absurd h
+
+pub gets_left : (asks : List Ask) (keys : List Reference) (texts : List (List ℕ)) (whole : List DataCommand) → texts ≡ [] → whole ≡ [] → AreJust asks keys texts whole → commands_of asks keys texts whole ≡ map get_of keys
+gets_left asks keys texts whole no_text none h = rw (no_text, none) (gets_alone asks keys (subst (λ (ts : List (List ℕ)). AreJust asks keys ts []) no_text (subst (λ (cs : List DataCommand). AreJust asks keys texts cs) none h)))
+
+-- nothing stands behind the end
+pub none_left : {A : Type 0} → (n : ℕ) (xs : List A) → length xs ≤ n → drop n xs ≡ []
+none_left zero [] h = refl
+none_left (suc n) [] h = refl
+none_left zero (x ∷ xs) h = absurd (omega (arith, h))
+none_left (suc n) (x ∷ xs) h = none_left n xs (omega (arith, h))
+
+-- all that is left
+pub rest_of : {A : Type 0} → (n : ℕ) (xs : List A) → take (length xs - n) (drop n xs) ≡ drop n xs
+rest_of n xs = ap (λ k. take k (drop n xs)) (sym (length-drop n xs)) ∙ (ap (λ ys. take (length (drop n xs)) ys) (none_behind (drop n xs)) ∙ take_at (drop n xs) [] (length (drop n xs)) refl)
 
 -- ---- told
 

@@ -16,3 +16,4 @@ pub mod Stepping
 pub mod Histories
 pub mod Holding
 pub mod Serving
+pub mod Knowing

@@ -3,15 +3,19 @@
 use Rattle.std.specs.Prelude.{◌≡◌, ℕ, List, [], ◌∷◌, ◌++◌, length, take, drop, map, Option, None, Result, Ok, Err}
 use Rattle.refusal.specs.declared.Refusal.{Refusal}
 use Rattle.collation.specs.Reference.{Reference}
+use Rattle.collation.specs.Database.{Database}
 use Rattle.command.specs.declared.access.DataCommand.{DataCommand}
 use Rattle.command.specs.declared.access.DataCommand.TheVariants.{Set, Look}
 use Rattle.command.specs.declared.access.Look.TheVariants.{Get}
 use Rattle.command.specs.declared.access.Answer.{Answer}
 use Rattle.command.specs.declared.access.Answer.TheVariants.{Done, Value}
+use Rattle.command.specs.Data.{data_reply}
 use Rattle.command.specs.declared.request.Command.{Command}
 use Rattle.command.specs.declared.request.Command.TheVariants.{Access}
 use Rattle.command.specs.declared.request.Reply.{Reply}
 use Rattle.command.specs.declared.request.Reply.TheVariants.{Answered, Refused}
+use Rattle.journal.specs.declared.unit.Unit.{Unit as JournalUnit}
+use Rattle.journal.specs.History.{initial, after}
 use Rattle.shared_engine.specs.declared.asked.Ask.{Ask}
 use Rattle.shared_engine.specs.declared.asked.Ask.TheVariants.{Set as ask_set, Get as ask_get, Other as ask_other}
 use Rattle.shared_engine.specs.declared.told.Tag.{Tag}
@@ -37,6 +41,19 @@ get_of key = Look (Get key None)
 -- a SET
 abbrev pub IsSet : DataCommand → Type 0
 IsSet command = (key : Reference) × (value : List ℕ) × (command ≡ Set key value)
+
+-- the value that an answer says, the empty one where it is no value
+abbrev pub value_said : Answer → List ℕ
+value_said (Value value) = value
+value_said other = []
+
+-- these are the values that the commands are answered with on a map
+abbrev pub AreValuesOn : Database → List DataCommand → List (List ℕ) → Type 0
+AreValuesOn m commands values = values ≡ map (λ command. value_said (data_reply command m)) commands
+
+-- the values that the commands were answered with when there were just these units
+abbrev pub IsAhead : ℕ → List JournalUnit → List DataCommand → List (List ℕ) → Type 0
+IsAhead number units commands values = (number ≡ length units) × AreValuesOn (after units initial).map commands values
 
 -- data commands as a session's commands
 abbrev pub accesses : List DataCommand → List Command

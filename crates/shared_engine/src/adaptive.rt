@@ -106,6 +106,11 @@ impl<T> AdaptiveLock<T> {
         self.lock.read(rt)
     }
 
+    /// The lock alone, where nobody has it now.
+    pub(crate) fn write_at_once(&self) -> Option<RwLockWriteGuard<'_, T>> {
+        self.lock.try_write()
+    }
+
     /// The lock alone.
     pub(crate) fn write<R: Wait>(&self, rt: &R, patience: Patience) -> RwLockWriteGuard<'_, T> {
         if let Some(guard) = self.lock.try_write() {

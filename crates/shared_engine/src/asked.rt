@@ -1,5 +1,5 @@
 //! What the lines of a hold ask, side by side.
-ghost use Rattle.std.specs.Prelude.{◌≡◌, ◌⊎◌, ◌≤◌, ◌+◌, ◌-◌, ◌∷◌, ◌++◌, [], ℕ, List, IfNone, IfSome, OnOk, OnErr};
+ghost use Rattle.std.specs.Prelude.{◌≡◌, ◌⊎◌, ◌≤◌, ◌+◌, ◌-◌, ◌∷◌, ◌++◌, [], ℕ, List, map, IfNone, IfSome, OnOk, OnErr};
 ghost use Rattle.collation.specs.Reference.{Reference};
 ghost use Rattle.command.specs.declared.access.DataCommand.{DataCommand};
 ghost use Rattle.command.specs.declared.access.DataCommand.TheVariants.{Set};
@@ -215,6 +215,36 @@ impl Asked {
     {
         self.ask += 1;
         self.key += 1;
+    }
+
+    /// What its memory comes from.
+    pub(crate) fn alloc(&self) -> Global {
+        *self.texts.allocator()
+    }
+
+    /// The keys of the lines left, where each of them is a $GET.
+    pub(crate) fn gets(&self) -> Option<&[Key]>
+        ensures { IfSome result (λ keys. self.now.commands ≡ map get_of keys.now) }
+    {
+        let others = self.whole.len();
+        if others > 0 {
+            return None;
+        }
+        if self.text < self.texts.len() {
+            return None;
+        }
+        Some(&self.keys[self.key..])
+    }
+
+    /// All lines are done.
+    pub(crate) fn pass_all(&mut self)
+        ensures commands { self.new.commands ≡ [] }
+        ensures rest { (self.new.room ≡ self.old.room) × (self.new.others ≡ 0) }
+    {
+        self.ask = self.asks.len();
+        self.key = self.keys.len();
+        self.text = self.texts.len();
+        self.whole.clear();
     }
 
     /// The command of the next line, which lies there whole: it is taken out.

@@ -8,10 +8,12 @@ ghost use Rattle.job_core.specs.Sessions.{IsAnsweredOrRefused, IsOpenOn};
 ghost use Rattle.shared_engine.specs.Blocks.{AreDone};
 ghost use Rattle.shared_engine.specs.Sessions.{knowing, IsJournalOf};
 ghost use Rattle.shared_engine.specs.Engines.{IsLocked, MayBeTaken};
-ghost use Rattle.shared_engine.specs.Holds.{accesses, IsSet, IsTagged, IsAskedBy};
+ghost use Rattle.shared_engine.specs.Holds.{accesses, IsAhead, IsSet, IsTagged, IsAskedBy};
+ghost use Rattle.pin_board.specs.Slips.{IsBeginning};
 ghost use Rattle.shared_engine.specs.Serving.{HasServed};
 
 use crate::adaptive::Patience;
+use crate::ahead::Ahead;
 use crate::asked::{Ask, Asked};
 use crate::hold::Hold;
 use crate::inner::InnerSession;
@@ -21,10 +23,11 @@ use crate::session::Session;
 use crate::shared::Shared;
 use crate::told::{Tolds, tag_of_got};
 use crate::turn::Turn;
+use crate::under::Under;
 use command::DataCommand;
 use pin_board::{Board, Lifted};
 use refusal::Refusal;
-use std::sync::Wait;
+use std::sync::{RwLockWriteGuard, Wait};
 
 impl Locked {
     // A SET of a hold, outside a transaction.
@@ -168,18 +171,60 @@ impl Locked {
         }
     }
 
-    /// Does the commands of a hold outside a transaction, each as `lone` does it.
+    // All lines of a hold, outside a transaction: where their values were read before, and are so still, nothing is looked
+    // up.
+    fn lone_or_known(
+        &mut self,
+        board: &Board,
+        desk: &mut Lifted,
+        session: &mut InnerSession,
+        asked: &mut Asked,
+        told: &mut Tolds,
+        ahead: &Option<Ahead>,
+    )
+        requires own { (desk.old.table ≡ board.now.table) × (session.old.table ≡ board.now.table) }
+        requires stands { IsLocked self.old.core desk.old self.old.seats self.old.horizon self.old.opened }
+        requires level { session.old.held.state.level ≡ 0 }
+        requires seen { session.old.held.seen ≡ self.old.core.units }
+        requires known { IfSome ahead.now (λ read. (base : List JournalUnit) × IsBeginning self.old.core.units base × IsAhead read.number base asked.old.commands read.values.items) }
+        requires room { (length asked.old.commands ≤ told.old.room) × (asked.old.others ≤ told.old.answers) }
+        requires none { told.old.served ≡ [] }
+        ensures table { (desk.new.table ≡ desk.old.table) × (session.new.table ≡ session.old.table) }
+        ensures stands { IsLocked self.new.core desk.new self.new.seats self.new.horizon self.new.opened }
+        ensures done { AreDone (accesses asked.old.commands) told.new.served self.old.core.units self.new.core.units session.old.held session.new.held }
+        ensures seen { session.new.held.seen ≡ self.new.core.units }
+        ensures left { asked.new.commands ≡ [] }
+        ensures room { (asked.new.room ≡ asked.old.room) × (told.new.room + length asked.old.commands ≡ told.old.room) }
+        ensures answers { asked.new.others ≤ told.new.answers }
+        ensures others { (desk.new.knows.given ≡ desk.old.knows.given) × (self.new.seats ≡ self.old.seats) }
+    {
+        if let Some(read) = ahead {
+            if self.core.is_as_at(read.number) {
+                if let Some(keys) = asked.gets() {
+                    self.known_gets(board, desk, session, keys, &read.values, told);
+                    asked.pass_all();
+                    return;
+                }
+            }
+        }
+        self.lone_lines(board, desk, session, asked, told);
+    }
+
+    /// Does the commands of a hold outside a transaction, each as `lone` does it. Their values may have been read before,
+    /// when the session had seen just as much as now.
     pub(crate) fn hold_lone(
         &mut self,
         board: &Board,
         desk: &mut Lifted,
         session: &mut InnerSession,
         hold: &mut Hold,
+        ahead: &Option<Ahead>,
     )
         requires own { (desk.old.table ≡ board.now.table) × (session.old.table ≡ board.now.table) }
         requires stands { IsLocked self.old.core desk.old self.old.seats self.old.horizon self.old.opened }
         requires level { session.old.held.state.level ≡ 0 }
         requires none { hold.old.served ≡ [] }
+        requires known { IfSome ahead.now (λ read. IsAhead read.number session.old.held.seen hold.old.commands read.values.items) }
         ensures table { (desk.new.table ≡ desk.old.table) × (session.new.table ≡ session.old.table) }
         ensures stands { IsLocked self.new.core desk.new self.new.seats self.new.horizon self.new.opened }
         ensures done { AreDone (accesses hold.old.commands) hold.new.served self.old.core.units self.new.core.units (knowing self.old.core.units session.old.held) session.new.held }
@@ -189,7 +234,7 @@ impl Locked {
         ensures others { (desk.new.knows.given ≡ desk.old.knows.given) × (self.new.seats ≡ self.old.seats) }
     {
         self.find_journal(board, desk, session);
-        self.lone_lines(board, desk, session, &mut hold.asked, &mut hold.told);
+        self.lone_or_known(board, desk, session, &mut hold.asked, &mut hold.told, ahead);
     }
 
     // A SET of a hold, in a transaction whose start's content is there.
@@ -441,9 +486,41 @@ impl<B: BoardName> Session<B> {
 }
 
 impl<B: BoardName> Shared<B> {
+    // Does the commands of a hold as `hold_lone`, once the lock is had alone. Values may have been read before, when the
+    // session had seen just as much as now.
+    fn hold_under<R: Wait>(
+        &self,
+        rt: &R,
+        guard: RwLockWriteGuard<'_, Under<B>>,
+        session: &mut Session<B>,
+        hold: &mut Hold,
+        ahead: &Option<Ahead>,
+        turn: &mut Turn,
+    )
+        requires level { session.old.state.level ≡ 0 }
+        requires none { hold.old.served ≡ [] }
+        requires known { IfSome ahead.now (λ read. IsAhead read.number session.old.seen hold.old.commands read.values.items) }
+        ensures done { (units : List JournalUnit) × IsJournalOf units session.old × AreDone (accesses hold.old.commands) hold.new.served units session.new.seen (knowing units session.old) session.new }
+        ensures places { hold.new.places ≡ hold.old.places }
+        ensures each { length hold.new.served ≡ length hold.old.commands }
+        ensures turn { MayBeTaken turn.old turn.new }
+    {
+        let mut guard = guard;
+        let under = &mut *guard;
+        let mut desk = under.desk.lift(rt);
+        under
+            .locked
+            .hold_lone(&self.board, &mut desk, &mut session.inner, hold, ahead);
+        under.locked.take_turn(&self.board, &mut desk, turn);
+        under.desk.set_down(desk);
+    }
+
     /// Does the commands of a hold, of a session without a transaction, in order, each as `lone` does it, under one hold
-    /// of the exclusive lock: nobody else does anything meanwhile. A refusal is a reply: after one nothing has changed,
-    /// and the others are done. A turn that is due is taken under the same hold, behind them.
+    /// of the exclusive lock: nobody else does anything meanwhile. Where others have the lock, and all of them are $GETs,
+    /// their values are read under the shared lock first, beside others, and stand where nobody wrote until then. A refusal
+    /// is a reply: after one nothing has changed, and the others are done. A turn that is due is taken under the same
+    /// hold, behind them, where it pays.
+    #[tactic(auto, using(crate::proofs::Knowing::done_from))]
     pub fn hold_lone<R: Wait>(
         &self,
         rt: &R,
@@ -458,14 +535,13 @@ impl<B: BoardName> Shared<B> {
         ensures each { length hold.new.served ≡ length hold.old.commands }
         ensures turn { MayBeTaken turn.old turn.new }
     {
-        let mut guard = self.lock.write(rt, Patience::Long);
-        let under = &mut *guard;
-        let mut desk = under.desk.lift(rt);
-        under
-            .locked
-            .hold_lone(&self.board, &mut desk, &mut session.inner, hold);
-        under.locked.take_turn(&self.board, &mut desk, turn);
-        under.desk.set_down(desk);
+        if let Some(guard) = self.lock.write_at_once() {
+            self.hold_under(rt, guard, session, hold, &None, turn);
+            return;
+        }
+        let ahead = self.read_ahead(rt, &mut session.inner, hold);
+        let guard = self.lock.write(rt, Patience::Long);
+        self.hold_under(rt, guard, session, hold, &ahead, turn);
     }
 
     /// Does the commands of a hold in a session's open transaction, in order, each as `read` does it, under one hold of

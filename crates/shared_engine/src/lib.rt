@@ -20,6 +20,9 @@
 //! (`IsLocked` of `specs/Engines.antt`): the store's cut isn't above the greatest horizon, and by the board's rule no
 //! horizon is above a settled start.
 //!
+//! A hold of $GETs that finds the lock taken reads their values under the shared lock first, and writes only their units
+//! once it has the lock alone, if nothing was written until then (`src/ahead.rt`).
+//!
 //! Inside, which board a session is of is a value that its clauses see (`specs/Named.antt`, `src/inner.rt`). Outside it is
 //! a type, `BoardName`, under which `Session`, `Pass` and `Under` (`src/under.rt`) wrap what is inside.
 //!
@@ -45,6 +48,7 @@ pub use turn::Turn;
 pub use under::{Pause, Share};
 
 mod adaptive;
+mod ahead;
 mod asked;
 mod ending;
 mod entry;

@@ -272,7 +272,7 @@ impl<B: BoardName> Shared<B> {
     /// The outermost TCOMMIT: the transaction is a unit with a receipt, or, where another unit touched what it had read,
     /// it begins anew. One that did SETs and KILLs alone never does. The clause speaks of a journal that goes on from all
     /// that the session had seen and has the units of its receipts. Takes the exclusive lock. A turn that is due is taken
-    /// under the same hold, behind the commit.
+    /// under the same hold, behind the commit, where it pays.
     ///
     /// Refusals, after which nothing has changed but that turn and what the session has seen: `StampsUsedUp`,
     /// `OutOfMemory`.
@@ -359,7 +359,7 @@ impl<B: BoardName> Shared<B> {
     /// does anything from where the transaction begins anew, so no TCOMMIT in the block begins it anew. Each LOCK is one
     /// try. Answers the reply to each command, a refusal too: after one nothing has changed, and the block goes on. A
     /// transaction that the block leaves open stays so. A turn that is due is taken under the same hold, behind the
-    /// block. The clause is that of all steps on a journal that goes on from all that the session had seen.
+    /// block, where it pays. The clause is that of all steps on a journal that goes on from all that the session had seen.
     ///
     /// `musts` says of each command whether, if it is a LOCK, it has to have its names; behind the last of them none
     /// has to. Where such a LOCK is blocked its place is answered, and what stands behind it isn't done: to wait for

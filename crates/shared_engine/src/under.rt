@@ -54,6 +54,18 @@ impl<B: BoardName> Under<B> {
         self.locked.meet(board, &mut desk, session);
         self.desk.give_back(desk);
     }
+
+    /// As `Locked::find_journal`, in the same way.
+    pub(crate) fn look<R: Wait>(&self, rt: &R, board: &Board, session: &mut InnerSession)
+        requires own { (session.old.table ≡ B.table) × (board.now.table ≡ B.table) }
+        ensures table { session.new.table ≡ session.old.table }
+        ensures same { session.new.held ≡ knowing self.now.locked.core.units session.old.held }
+        ensures journal { IsJournalOf self.now.locked.core.units session.old.held }
+    {
+        let mut desk = self.desk.lift(rt);
+        self.locked.find_journal(board, &mut desk, session);
+        self.desk.give_back(desk);
+    }
 }
 
 /// The shared lock, held until this is dropped: others read meanwhile, and nobody writes. It lends nothing.

@@ -18,14 +18,14 @@ use std::time::Duration;
 const TURNS: u64 = 20_000;
 
 // The stages of two threads that meet: the session is ready, the lock is held, and the session has done its part.
-const READY: u64 = 1;
+pub(crate) const READY: u64 = 1;
 
-const HELD: u64 = 2;
+pub(crate) const HELD: u64 = 2;
 
 const DONE: u64 = 3;
 
 // Waits for a stage, in bounded turns. Whether it came.
-fn comes<R: Clock>(rt: &R, stage: &AtomicU64, want: u64) -> bool {
+pub(crate) fn comes<R: Clock>(rt: &R, stage: &AtomicU64, want: u64) -> bool {
     for _ in 0..TURNS {
         if stage.load(Ordering::SeqCst) >= want {
             return true;
@@ -36,7 +36,7 @@ fn comes<R: Clock>(rt: &R, stage: &AtomicU64, want: u64) -> bool {
 }
 
 // Says that the session is ready, and waits until the lock is held.
-fn meets<R: Clock>(rt: &R, stage: &AtomicU64) -> bool {
+pub(crate) fn meets<R: Clock>(rt: &R, stage: &AtomicU64) -> bool {
     stage.store(READY, Ordering::SeqCst);
     comes(rt, stage, HELD)
 }

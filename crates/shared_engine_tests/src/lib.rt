@@ -6,6 +6,8 @@
 pub use crossing::{engine_is_shared, session_is_sent};
 
 #[cfg(test)]
+mod ahead;
+#[cfg(test)]
 mod beside;
 #[cfg(test)]
 mod blocks;

@@ -2,7 +2,7 @@ use Rattle.shared_engine.specs.Sessions.{knowing}
 use Rattle.shared_engine.specs.Blocks.{AreDone}
 use Rattle.shared_engine.specs.Holds.{accesses}
 use Rattle.shared_engine.proofs.Serving.{served_each, done_at}
-use Rattle.shared_engine.proofs.shared.Shared.hold_lone.Goals as goal
+use Rattle.shared_engine.proofs.shared.Shared.hold_under.Goals as goal
 
 pub returns-clause-done : goal.returns-clause-done
 returns-clause-done g c =
