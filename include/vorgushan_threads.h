@@ -213,7 +213,7 @@ static inline void vgt_let_go(vgt_session *session) {
 }
 
 /* How often a call looks whether it is next before it sleeps, and how often before it lets others run meanwhile. */
-enum { VGT_QUEUE_TURNS = 40, VGT_QUEUE_SPINNING_TURNS = 8 };
+enum { VGT_QUEUE_TURNS = 40, VGT_QUEUE_SPINNING_TURNS = 4 };
 
 /* Calls that may need the database for themselves come one after another: where all of them tried for it, each would
  * keep the others from it. Who isn't next looks seldom, so that who is does several calls before all that they touch
@@ -225,7 +225,7 @@ static inline void vgt_queue(vgt_hub *hub) {
     for (turn = 0; turn < VGT_QUEUE_TURNS; turn++) {
         if (!pthread_mutex_trylock(&hub->writing))
             return;
-        for (spin = 0; spin < 256u << (turn < 3 ? turn : 3); spin++)
+        for (spin = 0; spin < 1024u << (turn < 3 ? turn : 3); spin++)
             __builtin_ia32_pause();
         if (turn >= VGT_QUEUE_SPINNING_TURNS)
             sched_yield();
