@@ -16,7 +16,7 @@ use Rattle.journal.specs.contracts.list.Journal as Journal
 use Rattle.lock_table.specs.contracts.table.LockTable as LockTable
 use Rattle.lock_table.specs.contracts.table.LockTable.TheInside as LocksInside
 use Rattle.lock_trie.specs.contracts.trie.LockTrie as LockTrie
-use Rattle.lock_table.proofs.row.Row.TheSendSync as row
+use Rattle.lock_table.specs.contracts.row.Row as Row
 use Rattle.lock_name.proofs.lock.LockName.TheSendSync as lock_name
 use Rattle.lock_trie.proofs.holders.Holders.TheSendSync as holders
 use Rattle.key_codec.proofs.key.Key.TheSendSync as key
@@ -65,14 +65,20 @@ names_send = search (heap.crosses, nodes.crosses, holders.the_send, holders.the_
 names_sync : IsSync LockTrie.the_row
 names_sync = search (heap.crosses, nodes.crosses, holders.the_send, holders.the_sync, lock_name.the_send, lock_name.the_sync, sendable) depth 60 fits 20000
 
+row_send : IsSend Row.the_row
+row_send = search (heap.crosses, nodes.crosses, lock_name.the_send, lock_name.the_sync, sendable) depth 60 fits 20000
+
+row_sync : IsSync Row.the_row
+row_sync = search (heap.crosses, nodes.crosses, lock_name.the_send, lock_name.the_sync, sendable) depth 60 fits 20000
+
 locks_send : IsSend LockTable.the_row
 locks_send =
-    let c = struct_send (shape LocksInside.the_type) (search (heap.crosses, maps.crosses, row.the_send, sendable) depth 60, (names_send, (search (heap.crosses, sendable) depth 60, tt))) in
+    let c = struct_send (shape LocksInside.the_type) (search (heap.crosses, maps.crosses, row_send, sendable) depth 60, (names_send, (search (heap.crosses, sendable) depth 60, tt))) in
     record { owned = λ d vs x. (c.owned (LocksInside.the_type.to x.0) vs, tt); leaving = λ k d w. tt }
 
 locks_sync : IsSync LockTable.the_row
 locks_sync =
-    let c = struct_sync (shape LocksInside.the_type) (search (heap.crosses, maps.crosses, row.the_sync, sendable) depth 60, (names_sync, (search (heap.crosses, sendable) depth 60, tt))) in
+    let c = struct_sync (shape LocksInside.the_type) (search (heap.crosses, maps.crosses, row_sync, sendable) depth 60, (names_sync, (search (heap.crosses, sendable) depth 60, tt))) in
     record { shared = λ d b o κ x. (c.shared (LocksInside.the_type.to x.0) b o κ, tt) }
 
 base_send : IsSend Base.the_row
