@@ -16,6 +16,7 @@ use Rattle.journal.specs.contracts.list.Journal as Journal
 use Rattle.lock_table.specs.contracts.table.LockTable as LockTable
 use Rattle.lock_table.specs.contracts.table.LockTable.TheInside as LocksInside
 use Rattle.lock_trie.specs.contracts.trie.LockTrie as LockTrie
+use Rattle.lock_table.specs.contracts.counts.Counts as Counts
 use Rattle.lock_table.specs.contracts.row.Row as Row
 use Rattle.lock_name.proofs.lock.LockName.TheSendSync as lock_name
 use Rattle.lock_trie.proofs.holders.Holders.TheSendSync as holders
@@ -65,11 +66,17 @@ names_send = search (heap.crosses, nodes.crosses, holders.the_send, holders.the_
 names_sync : IsSync LockTrie.the_row
 names_sync = search (heap.crosses, nodes.crosses, holders.the_send, holders.the_sync, lock_name.the_send, lock_name.the_sync, sendable) depth 60 fits 20000
 
+counts_send : IsSend Counts.the_row
+counts_send = search (heap.crosses, nodes.crosses, lock_name.the_send, lock_name.the_sync, sendable) depth 60 fits 20000
+
+counts_sync : IsSync Counts.the_row
+counts_sync = search (heap.crosses, nodes.crosses, lock_name.the_send, lock_name.the_sync, sendable) depth 60 fits 20000
+
 row_send : IsSend Row.the_row
-row_send = search (heap.crosses, nodes.crosses, lock_name.the_send, lock_name.the_sync, sendable) depth 60 fits 20000
+row_send = search (heap.crosses, counts_send, counts_sync, sendable) depth 60 fits 20000
 
 row_sync : IsSync Row.the_row
-row_sync = search (heap.crosses, nodes.crosses, lock_name.the_send, lock_name.the_sync, sendable) depth 60 fits 20000
+row_sync = search (heap.crosses, counts_send, counts_sync, sendable) depth 60 fits 20000
 
 locks_send : IsSend LockTable.the_row
 locks_send =

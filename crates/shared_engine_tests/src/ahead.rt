@@ -59,28 +59,28 @@ fn shares_a_while<B: BoardName, R: Wait + Clock>(
     (4, 4)
 }
 
-// Begins to ask once the lock is shared, and waits for it.
+// Begins to ask once the lock is shared, and waits for it. None where something else went wrong.
 fn gets<B: BoardName, R: Wait + Clock>(
     rt: &R,
     alloc: Global,
     engine: &Shared<B>,
     session: &mut Session<B>,
     stage: &AtomicU64,
-) -> (u64, u64) {
+) -> Option<(u64, u64)> {
+    let line = "1 SET ^X=\"a value of some length\"";
+    let is_set = is_replied(rt, alloc, engine, session, line, "0 ok\n");
     let mut hold = Hold::new(alloc);
-    let is_set = is_replied(
-        rt,
-        alloc,
-        engine,
-        session,
-        "1 SET ^X=\"a value of some length\"",
-        "0 ok\n",
-    );
-    if gather(alloc, &mut hold).is_none() || !is_set || !meets(rt, stage) || session.tlevel() != 0 {
-        return (0, 0);
+    gather(alloc, &mut hold)?;
+    let is_held = meets(rt, stage);
+    if session.tlevel() != 0 {
+        return None;
     }
     engine.hold_lone(rt, session, &mut hold, &mut Turn::NotDue);
-    count_told(&hold)
+    if is_set && is_held {
+        Some(count_told(&hold))
+    } else {
+        None
+    }
 }
 
 // What a thread does: the first asks, the other shares the lock.
@@ -95,12 +95,24 @@ fn side<B: BoardName, R: Wait + Clock>(
         return shares_a_while(rt, engine, stage);
     }
     match opened(rt, alloc, engine, 1) {
-        Some(mut session) => gets(rt, alloc, engine, &mut session, stage),
+        Some(mut session) => { gets(rt, alloc, engine, &mut session, stage).unwrap_or((0, 0)) }
         None => (0, 0),
     }
 }
 
-// Both in threads. How many were told each.
+// Both in threads. Whether all were told what is there.
+fn both_sides<B: BoardName + Send + Sync, R: Threads + Wait + Clock + Sync>(
+    rt: &R,
+    alloc: Global,
+    engine: &Shared<B>,
+    stage: &AtomicU64,
+) -> bool {
+    match thread::map_indices(rt, alloc, 2, &|i| side(rt, alloc, engine, i, stage)) {
+        Ok(made) => made.as_slice() == [(4, 4), (4, 4)].as_slice(),
+        Err(_) => false,
+    }
+}
+
 fn both<B: BoardName + Send + Sync, R: Threads + Wait + Clock + Sync>(
     rt: &R,
     alloc: Global,
@@ -109,11 +121,7 @@ fn both<B: BoardName + Send + Sync, R: Threads + Wait + Clock + Sync>(
     requires { (blank.seat.table_id ≡ B.table) × (blank.words.seats ≡ 4096) }
 {
     let engine = Shared::<B>::new(alloc, blank);
-    let stage = AtomicU64::new(0);
-    match thread::map_indices(rt, alloc, 2, &|i| side(rt, alloc, &engine, i, &stage)) {
-        Ok(made) => made.as_slice() == [(4, 4), (4, 4)].as_slice(),
-        Err(_) => false,
-    }
+    both_sides(rt, alloc, &engine, &AtomicU64::new(0))
 }
 
 #[test]
