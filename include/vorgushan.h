@@ -339,8 +339,9 @@ static inline vg_outcome vg_journal_from(vg_engine *engine, uint64_t units) {
 }
 
 /* Copies the lines of the journal's next unit, each with a byte 10 at its end, and of as many more units as the buffer
- * has room for. Run in order they do again what was done: a transaction is written where it was committed. It is no
- * command. Each call passes over all units since the last vg_checkpoint, so a long buffer makes for few of them.
+ * has room for. Run in order they do again what was done: a transaction is written where it was committed, and a line
+ * TRESTART returns VG_RESTARTED, as it should. It is no command. Each call passes over all units since the last
+ * vg_checkpoint, so a long buffer makes for few of them.
  *
  * VG_AT_END where no unit is left. VG_GONE where vg_checkpoint has dropped the next one. VG_BUFFER_TOO_SHORT where its
  * lines are longer than the buffer: lines_length is the length that is needed. VG_OUT_OF_MEMORY. Then nothing is

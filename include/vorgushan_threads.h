@@ -111,18 +111,21 @@ vg_outcome vorgushan_s_checkpoint(vg_session *session);
  * threads may make or end it at once; what else they do with it they may. */
 typedef struct vgt_hub {
     vg_hub own;
-    unsigned waiting_writers; /* calls that wait to have the database for themselves */
-    unsigned served_writers;  /* how many of those came through */
-    pthread_mutex_t opening;  /* held round each call that is given the hub */
-    pthread_mutex_t writing;  /* held by the call that is next to have the database for itself */
-    pthread_mutex_t waiting;  /* held for `turns` */
-    pthread_cond_t freed;     /* names may have been given back */
-    uint64_t turns;           /* how often that was */
+    unsigned waiting_writers;  /* calls that wait to have the database for themselves */
+    unsigned served_writers;   /* how many of those came through */
+    unsigned queued;           /* calls that wait to be next to have it */
+    unsigned passed;           /* how many calls have passed these since one of them was next */
+    pthread_mutex_t opening;   /* held round each call that is given the hub */
+    pthread_mutex_t writing;   /* held by the call that is next to have the database for itself */
+    pthread_mutex_t following; /* held by the queued call that will be next; the others sleep for it */
+    pthread_mutex_t waiting;   /* held for `turns` */
+    pthread_cond_t freed;      /* names may have been given back */
+    uint64_t turns;            /* how often that was */
 } vgt_hub;
 
 #define VGT_HUB_NONE                                                                                                   \
-    {{NULL}, 0, 0, PTHREAD_MUTEX_INITIALIZER, PTHREAD_MUTEX_INITIALIZER, PTHREAD_MUTEX_INITIALIZER,                    \
-     PTHREAD_COND_INITIALIZER, 0}
+    {{NULL}, 0, 0, 0, 0, PTHREAD_MUTEX_INITIALIZER, PTHREAD_MUTEX_INITIALIZER, PTHREAD_MUTEX_INITIALIZER,              \
+     PTHREAD_MUTEX_INITIALIZER, PTHREAD_COND_INITIALIZER, 0}
 
 /* A session of one job. Begin it with VGT_SESSION_NONE, an initializer (memory set to zero is the same). */
 typedef struct vgt_session {
@@ -212,20 +215,40 @@ static inline void vgt_let_go(vgt_session *session) {
     vorgushan_s_release(&session->own);
 }
 
-/* How often a call looks whether it is next before it sleeps, and how often before it lets others run meanwhile. */
-enum { VGT_QUEUE_TURNS = 40, VGT_QUEUE_SPINNING_TURNS = 4 };
+/* How many calls may pass those that are queued; how often the first of these looks whether it is next before it lets
+ * others run meanwhile, and before it sleeps; how many of the processor's pauses lie between two looks, and between two
+ * at how many have passed. */
+enum {
+    VGT_MOST_PASSED = 128,
+    VGT_QUEUE_SPINNING_TURNS = 8,
+    VGT_QUEUE_TURNS = 40,
+    VGT_QUEUE_PAUSES = 2048,
+    VGT_COUNT_PAUSES = 64
+};
 
-/* Calls that may need the database for themselves come one after another: where all of them tried for it, each would
- * keep the others from it. Who isn't next looks seldom, so that who is does several calls before all that they touch
- * goes to another processor; at last it sleeps. */
-static inline void vgt_queue(vgt_hub *hub) {
+/* Whether as many calls have passed those that are queued as may. */
+static inline int vgt_have_most_passed(vgt_hub *hub) {
+    return __atomic_load_n(&hub->passed, __ATOMIC_RELAXED) >= VGT_MOST_PASSED;
+}
+
+/* Whether a call is next at once. It may pass queued ones: so a thread does several calls before all that they touch goes
+ * to another processor. */
+static inline int vgt_is_next(vgt_hub *hub) {
+    const unsigned queued = __atomic_load_n(&hub->queued, __ATOMIC_RELAXED);
+    if ((queued > 0 && vgt_have_most_passed(hub)) || pthread_mutex_trylock(&hub->writing))
+        return 0;
+    if (queued > 0)
+        __atomic_add_fetch(&hub->passed, 1, __ATOMIC_RELAXED);
+    return 1;
+}
+
+/* Waits until the first of the queued calls is next. */
+static inline void vgt_follow(vgt_hub *hub) {
     unsigned turn, spin;
-    if (!hub)
-        return;
     for (turn = 0; turn < VGT_QUEUE_TURNS; turn++) {
         if (!pthread_mutex_trylock(&hub->writing))
             return;
-        for (spin = 0; spin < 1024u << (turn < 3 ? turn : 3); spin++)
+        for (spin = 1; spin < VGT_QUEUE_PAUSES && (spin % VGT_COUNT_PAUSES || !vgt_have_most_passed(hub)); spin++)
             __builtin_ia32_pause();
         if (turn >= VGT_QUEUE_SPINNING_TURNS)
             sched_yield();
@@ -233,18 +256,37 @@ static inline void vgt_queue(vgt_hub *hub) {
     pthread_mutex_lock(&hub->writing);
 }
 
-static inline void vgt_leave_queue(vgt_hub *hub) {
-    if (hub)
-        pthread_mutex_unlock(&hub->writing);
+/* Calls that may need the database for themselves come one after another: where all of them tried for it, each would
+ * keep the others from it. One looks seldom whether it is next, the others sleep, and few pass them. Returns whether the
+ * call was queued. */
+static inline int vgt_queue(vgt_hub *hub) {
+    if (!hub || vgt_is_next(hub))
+        return 0;
+    __atomic_add_fetch(&hub->queued, 1, __ATOMIC_RELAXED);
+    pthread_mutex_lock(&hub->following);
+    vgt_follow(hub);
+    __atomic_store_n(&hub->passed, 0, __ATOMIC_RELAXED);
+    __atomic_sub_fetch(&hub->queued, 1, __ATOMIC_RELAXED);
+    return 1;
+}
+
+/* Such a call is over, which may have been queued. */
+static inline void vgt_leave_queue(vgt_hub *hub, int was_queued) {
+    if (!hub)
+        return;
+    pthread_mutex_unlock(&hub->writing);
+    if (was_queued)
+        pthread_mutex_unlock(&hub->following);
 }
 
 /* Makes a session's call until it isn't in the way of others: one that may need the database for itself. */
 #define VGT_RETRY(session, outcome, call)                                                                              \
     do {                                                                                                               \
+        int vgt_queued;                                                                                                \
         vgt_let_go(session);                                                                                           \
-        vgt_queue((session)->hub);                                                                                     \
+        vgt_queued = vgt_queue((session)->hub);                                                                        \
         VGT_TRY(session, outcome, call);                                                                               \
-        vgt_leave_queue((session)->hub);                                                                               \
+        vgt_leave_queue((session)->hub, vgt_queued);                                                                   \
     } while (0)
 
 /* The same of one that mostly needs nothing of the database, out of the queue. */
@@ -317,11 +359,14 @@ static inline vg_outcome vgt_new(vgt_hub *hub) {
         return outcome;
     hub->waiting_writers = 0;
     hub->served_writers = 0;
+    hub->queued = 0;
+    hub->passed = 0;
     hub->turns = 0;
     pthread_condattr_init(&clock);
     pthread_condattr_setclock(&clock, CLOCK_MONOTONIC);
     pthread_mutex_init(&hub->opening, NULL);
     pthread_mutex_init(&hub->writing, NULL);
+    pthread_mutex_init(&hub->following, NULL);
     pthread_mutex_init(&hub->waiting, NULL);
     pthread_cond_init(&hub->freed, &clock);
     pthread_condattr_destroy(&clock);
@@ -337,13 +382,15 @@ static inline vg_outcome vgt_end(vgt_hub *hub) {
     outcome = vorgushan_hub_end(&hub->own);
     pthread_cond_destroy(&hub->freed);
     pthread_mutex_destroy(&hub->waiting);
+    pthread_mutex_destroy(&hub->following);
     pthread_mutex_destroy(&hub->writing);
     pthread_mutex_destroy(&hub->opening);
     memset(hub, 0, sizeof *hub);
     return outcome;
 }
 
-/* Begins a session of a job, 1 to 4,096, which has no other. VG_BAD_JOB, VG_OUT_OF_MEMORY: then none is there.
+/* Begins a session of a job, 1 to 4,096, which has no other. VG_BAD_JOB where it isn't such a number, or another session
+ * has it; VG_OUT_OF_MEMORY: then none is there.
  * VG_ENGINE_THERE where it has begun already: then it goes on as it was. */
 static inline vg_outcome vgt_open(vgt_hub *hub, vgt_session *session, uint64_t job) {
     vg_outcome outcome;
@@ -406,7 +453,8 @@ static inline vg_outcome vgt_get(vgt_session *session, vg_key *key, char *value,
     return outcome;
 }
 
-/* Copies once more what the last vgt_get, vgt_increment or vgt_order of the session answered. VG_NO_REPLY. */
+/* Copies once more what the last vgt_get, vgt_increment or vgt_order of the session answered. VG_NO_REPLY where its last
+ * command answered no bytes, its refusal where that was refused; VG_BUFFER_TOO_SHORT. */
 static inline vg_outcome vgt_copy(vgt_session *session, char *value, size_t value_size, size_t *value_length) {
     char nothing = 0;
     size_t length = 0;
@@ -553,6 +601,8 @@ static inline vg_outcome vgt_trestarts(vgt_session *session, uint64_t *restarts)
  * returns VG_RESTARTED, as it does with what vgt_trestart returns, nothing of it is done and it is called again. Where
  * it returns another outcome nothing of it is done, and that is returned.
  *
+ * A block that is left by an exception or by longjmp leaves the transaction open, and a hold on: call vgt_trollback.
+ *
  * VG_TRANSACTION_OPEN where the session is in a transaction already: then the block isn't called, and nothing has
  * changed. It is returned too where the block left a TSTART of its own open: then nothing of it is done. A block that
  * commits or rolls back by itself gets VG_NO_TRANSACTION in place of VG_DONE, and what it did stays. Where memory is
@@ -587,8 +637,9 @@ static inline vg_outcome vgt_transaction(vgt_session *session, vg_outcome (*bloc
 
 /* LOCK of the names of several keys at once, in a form of vg_lock_all: had is 1 where all of them were granted. Where
  * another session is in the way it waits for so many milliseconds, for ever where that is below 0, and not at all at 0;
- * had is 0 where that time is over. VG_LOCK_FEWER releases one count of each name, passes over those that the session
- * doesn't have, and never waits: had is 1. VG_NO_KEY where no key is given, or one isn't there; VG_LOCK_COUNT_FULL. */
+ * had is 0 where that time is over. That is the time for names alone: as each call, it also waits for others' calls and
+ * holds to end. VG_LOCK_FEWER releases one count of each name, passes over those that the session doesn't have, and
+ * never waits: had is 1. VG_NO_KEY where no key is given, or one isn't there; VG_LOCK_COUNT_FULL. */
 static inline vg_outcome vgt_lock_all(vgt_session *session, uint32_t form, vg_key keys[], size_t count, long wait,
                                       uint64_t *had) {
     uint64_t told = 0;
@@ -713,7 +764,8 @@ static inline vg_outcome vgt_view_end(vgt_session *session) {
 /* Holds the database for the session's next calls: its looks, and in a transaction its data commands. Then they are
  * quickest where several threads read, and wait for nobody; other sessions read meanwhile, and who would have the
  * database for himself waits. So hold for a few reads, as those of one transaction, and not while you wait for
- * something. Each other call of the session ends the hold: it needn't be released before a commit. VG_NO_ENGINE. */
+ * something: while a session of a thread holds, its calls of other sessions, but looks, would wait for it for ever. Each
+ * other call of the session ends the hold, also its TSTART, and it needn't be released before a commit. VG_NO_ENGINE. */
 static inline vg_outcome vgt_hold(vgt_session *session) {
     vg_outcome outcome;
     VGT_LOOK(session, outcome, vorgushan_s_hold(&session->own));

@@ -6,6 +6,7 @@
  * says: so it shows that each inline function calls again, and which of them wait in line. Those of malloc and realloc
  * refuse memory, and what isn't given back is counted. That of clock_gettime stops the clock. */
 #include <stdio.h>
+#include <stdlib.h>
 #include <string.h>
 #include <unistd.h>
 
@@ -57,10 +58,21 @@ static vg_key *counted(vg_key *keys) {
     return keys;
 }
 
+/* How many SETs were done by a thread that makes no pause, and how many before the last one of session `one`. */
+static unsigned long sets = 0;
+static unsigned long sets_before = 0;
+static vgt_session one, other;
+
+static vg_session *noted(vg_session *session) {
+    if (session == &one.own)
+        sets_before = __atomic_load_n(&sets, __ATOMIC_SEQ_CST);
+    return session;
+}
+
 BUSY_AT_TIMES(vorgushan_open, (vg_hub * h, vg_session *s, uint64_t j), (h, s, j))
 BUSY_AT_TIMES(vorgushan_s_halt, (vg_session * s), (s))
 BUSY_AT_TIMES(vorgushan_s_act, (vg_session * s, uint32_t a, uint64_t *n), (s, a, n))
-BUSY_AT_TIMES(vorgushan_s_set, (vg_session * s, vg_key *k, const char *v, size_t n), (s, k, v, n))
+BUSY_AT_TIMES(vorgushan_s_set, (vg_session * s, vg_key *k, const char *v, size_t n), (noted(s), k, v, n))
 BUSY_AT_TIMES(vorgushan_s_kill, (vg_session * s, uint32_t e, vg_key *k), (s, e, k))
 BUSY_AT_TIMES(vorgushan_s_get, (vg_session * s, vg_key *k, char *v, size_t z, size_t *n), (s, k, v, z, n))
 BUSY_AT_TIMES(vorgushan_s_merge, (vg_session * s, vg_key *t, vg_key *f), (s, t, f))
@@ -184,7 +196,6 @@ static long milliseconds_since(const struct timespec *start) {
 
 /* ---- What is looked at ---- */
 
-static vgt_session one, other;
 static vg_key root = VG_KEY_NONE, first = VG_KEY_NONE, second = VG_KEY_NONE, copy = VG_KEY_NONE;
 static char text[512];
 static size_t length;
@@ -859,6 +870,48 @@ static void use_readers(void) {
     use_walkers();
 }
 
+/* ---- The queue ---- */
+
+enum { SETS_BESIDE = 101 };
+
+static int sets_go_on = 0;
+
+static void *sets_without_a_pause(void *unused) {
+    while (__atomic_load_n(&sets_go_on, __ATOMIC_SEQ_CST) && vgt_set(&other, &first, VG_TEXT("1")) == VG_DONE)
+        __atomic_add_fetch(&sets, 1, __ATOMIC_SEQ_CST);
+    return unused;
+}
+
+static int is_more(const void *one_count, const void *other_count) {
+    const unsigned long more = *(const unsigned long *)one_count, less = *(const unsigned long *)other_count;
+    return (more > less) - (more < less);
+}
+
+/* A thread that sets without a pause passes nine of ten SETs of another at most so often as the header says, and a few
+ * times more before that one is counted. */
+static void use_queue(void) {
+    const struct timespec nap = {0, 1000000};
+    unsigned long passed[SETS_BESIDE];
+    pthread_t thread;
+    int turn;
+    sets_go_on = 1;
+    CHECK(!pthread_create(&thread, NULL, sets_without_a_pause, NULL));
+    while (__atomic_load_n(&sets, __ATOMIC_SEQ_CST) < 1000)
+        sched_yield();
+    for (turn = 0; turn < SETS_BESIDE; turn++) {
+        unsigned long before;
+        nanosleep(&nap, NULL);
+        before = __atomic_load_n(&sets, __ATOMIC_SEQ_CST);
+        CHECK(vgt_set(&one, &second, VG_TEXT("1")) == VG_DONE);
+        passed[turn] = sets_before - before;
+    }
+    __atomic_store_n(&sets_go_on, 0, __ATOMIC_SEQ_CST);
+    pthread_join(thread, NULL);
+    qsort(passed, SETS_BESIDE, sizeof *passed, is_more);
+    CHECK(passed[SETS_BESIDE * 9 / 10] <= 2 * VGT_MOST_PASSED);
+    CHECK(hub.queued == 0 && hub.passed <= VGT_MOST_PASSED);
+}
+
 /* ---- Upkeep ---- */
 
 static void use_upkeep(void) {
@@ -888,6 +941,7 @@ int main(void) {
     use_odd_blocks();
     use_readers();
     use_upkeep();
+    use_queue();
     begin_again();
     end_all();
     printf("%d checks, %d failed\n", checks, failed);

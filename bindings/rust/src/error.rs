@@ -134,7 +134,7 @@ impl fmt::Display for Error {
             Error::NoTransaction => "the job has no open transaction",
             Error::LevelTooDeep => "a transaction has at most 127 levels",
             Error::LockCountFull => "the count of a lock would pass 65,535",
-            Error::BadJob => "a job is a number from 1 to 4,096",
+            Error::BadJob => "a job is a number from 1 to 4,096 that no other session has",
             Error::TransactionTooLong => "a transaction has at most 65,535 data commands",
             Error::OutOfMemory => "memory was refused",
             Error::StampsUsedUp => "the journal is at its last unit",

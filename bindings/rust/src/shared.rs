@@ -106,7 +106,8 @@ impl SharedDatabase {
 
     /// A session of a job, 1 to 4,096, which has no other.
     ///
-    /// [`BadJob`](Error::BadJob), [`OutOfMemory`](Error::OutOfMemory).
+    /// [`BadJob`](Error::BadJob) where it isn't such a number, or another session has it;
+    /// [`OutOfMemory`](Error::OutOfMemory).
     pub fn session(&self, job: u64) -> Result<Session, Error> {
         let (raw, shared) = (RawSession::none(), Arc::clone(&self.shared));
         let (buffer, has_names, in_transaction, holds) = (vec![0; BUFFER], false, false, false);
@@ -126,7 +127,8 @@ impl fmt::Debug for SharedDatabase {
 /// A job at work on a [`SharedDatabase`]. It may be sent to another thread, which is proved of the library's sessions;
 /// it can't be used by two at once. Dropped it ends as by HALT: its transaction is dropped, and its names are released.
 ///
-/// No call waits for ever but [`lock`](Session::lock): where others are at it for a moment it is tried again. Each
+/// No call waits for ever but [`lock`](Session::lock), and, while a hold of the same thread goes on, each call of another
+/// session but looks: where others are at it for a moment it is tried again. Each
 /// command may answer [`OutOfMemory`](Error::OutOfMemory), [`StampsUsedUp`](Error::StampsUsedUp) and, in a transaction,
 /// [`TransactionTooLong`](Error::TransactionTooLong).
 ///
@@ -398,6 +400,17 @@ impl Session {
     }
 }
 
+/// A hold of a view, which ends when it is dropped.
+struct HoldingView<'a, 'v> {
+    view: &'a mut SessionView<'v>,
+}
+
+impl Drop for HoldingView<'_, '_> {
+    fn drop(&mut self) {
+        self.view.transaction.session.let_go();
+    }
+}
+
 /// A hold, which ends when it is dropped.
 struct Holding<'a> {
     session: &'a mut Session,
@@ -584,9 +597,8 @@ impl SessionView<'_> {
         let session = &mut *self.transaction.session;
         done(session.looked(|session| raw::vorgushan_s_hold(session)))?;
         session.holds = true;
-        let answer = body(self);
-        self.transaction.session.let_go();
-        Ok(answer)
+        let holding = HoldingView { view: self };
+        Ok(body(holding.view))
     }
 
     /// The nodes with a value at and under a key, in order.
