@@ -286,7 +286,7 @@ impl RunLog for Told {
 
     fn shown(&mut self, _core: &JobCore) {}
 
-    fn ended(&mut self, core: &JobCore) {
+    fn ended(&mut self, core: &JobCore, _is_whole: bool) {
         self.units = core.journal().len();
     }
 }
@@ -314,7 +314,7 @@ impl RunLog for Looking<'_> {
         self.units = core.journal().len();
     }
 
-    fn ended(&mut self, _core: &JobCore) {}
+    fn ended(&mut self, _core: &JobCore, _is_whole: bool) {}
 }
 
 // What such a log finds: lines, bytes, units.

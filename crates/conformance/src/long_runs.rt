@@ -22,7 +22,7 @@ impl RunLog for Kept {
 
     fn shown(&mut self, _core: &JobCore) {}
 
-    fn ended(&mut self, core: &JobCore) {
+    fn ended(&mut self, core: &JobCore, _is_whole: bool) {
         self.units = core.journal().len();
         self.dropped = core.base().number();
     }

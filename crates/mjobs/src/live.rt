@@ -11,7 +11,7 @@ use live_server::{Live, LiveFault, Lived, Teller, relay_live, status_of};
 use loading::load_with;
 use program_front::{
     Keeping, ListingFile, MjobsArgs, Piped, Statistics, Ticker, keeping_of, print_fault,
-    print_load_fault, print_refused, print_statistics, print_unread,
+    print_load_fault, print_refused, print_statistics, print_unwritten,
 };
 use refusal::Refusal;
 use script_run::RunLog;
@@ -47,7 +47,7 @@ impl<'a, P: Eprint + AllocGlobal> RunLog for Told<'a, P> {
 
     fn shown(&mut self, _core: &JobCore) {}
 
-    fn ended(&mut self, _core: &JobCore) {}
+    fn ended(&mut self, _core: &JobCore, _is_whole: bool) {}
 }
 
 impl<'a, P: Eprint + AllocGlobal> Teller for Told<'a, P> {
@@ -90,18 +90,18 @@ fn first_core(
     }
 }
 
-// Prints a fault; that nobody reads the output only where something was to be kept.
-fn tell_fault(rt: &impl Eprint, args: MjobsArgs, fault: LiveFault, is_closed: bool) {
+// Prints a fault.
+fn tell_fault<W>(rt: &impl Eprint, args: MjobsArgs, fault: LiveFault, output: &Piped<W>) {
     match fault {
-        LiveFault::Write if is_closed => print_unread(rt, PROGRAM, args.names()),
+        LiveFault::Write => print_unwritten(rt, PROGRAM, fault.text(), args.names(), output),
         _ => {
             let _status = print_fault(rt, PROGRAM, fault.text());
         }
     }
 }
 
-// Prints why a run ended early, and what is held if that is asked for, keeps what is to be kept, and answers the exit
-// status.
+// Prints why a run ended early, and what is held if that is asked for, keeps what is to be kept if the run has gone
+// well, and answers the exit status.
 fn end_live<P: Files + Eprint + AllocGlobal, W: Write + Drop, F: Write + Drop>(
     rt: &P,
     args: MjobsArgs,
@@ -109,7 +109,7 @@ fn end_live<P: Files + Eprint + AllocGlobal, W: Write + Drop, F: Write + Drop>(
     keeping: Keeping<'_, F>,
 ) -> u8 {
     if let Err(fault) = &lived.outcome {
-        tell_fault(rt, args, *fault, lived.writer.inner().is_closed());
+        tell_fault(rt, args, *fault, lived.writer.inner());
     }
     let core = lived.live.core();
     if args.statistics {
@@ -121,9 +121,13 @@ fn end_live<P: Files + Eprint + AllocGlobal, W: Write + Drop, F: Write + Drop>(
         );
         print_statistics(rt, PROGRAM, &held);
     }
-    match keeping.write(rt, PROGRAM, core.journal(), &core.content()) {
-        Ok(drafts) => drafts.end(rt, PROGRAM, status_of(&lived.outcome)),
-        Err(status) => status,
+    let status = status_of(&lived.outcome);
+    match &lived.outcome {
+        Ok(_) => keeping.keep(rt, PROGRAM, core.journal(), &core.content(), status),
+        Err(_) => {
+            drop(keeping);
+            status
+        }
     }
 }
 

@@ -22,7 +22,7 @@ use program_front::{
     Keeping, ListingFile, MjobsArgs, Piped, Progress, Statistics, Ticker, Workers, arguments_of,
     keeping_of, look_at_input, mjobs_args_with, open_input, path_of, print_bad_name, print_fault,
     print_help_or_error, print_jobs_greeting, print_load_fault, print_no_transaction,
-    print_refused, print_statistics, print_unread, read_listing,
+    print_refused, print_statistics, print_unwritten, read_listing,
 };
 use script::{Drafts, read_line};
 use std::alloc::AllocError;
@@ -108,10 +108,10 @@ fn print_unserved(rt: &impl Eprint, file: &ListingFile<'_>, fault: JobsFault) ->
     }
 }
 
-// Prints a fault; that nobody reads the output only where something was to be kept.
-fn tell_fault(rt: &impl Eprint, args: MjobsArgs, fault: JobsFault, is_closed: bool) {
+// Prints a fault.
+fn tell_fault<W>(rt: &impl Eprint, args: MjobsArgs, fault: JobsFault, output: &Piped<W>) {
     match fault {
-        JobsFault::Write if is_closed => print_unread(rt, PROGRAM, args.names()),
+        JobsFault::Write => print_unwritten(rt, PROGRAM, fault.text(), args.names(), output),
         _ => {
             let _status = print_fault(rt, PROGRAM, fault.text());
         }
@@ -131,7 +131,7 @@ fn tell_no_transaction(rt: &impl Eprint, served: &Served) {
     }
 }
 
-// Writes what was served, prints a fault, and answers the exit status; then keeps what is to be kept.
+// Writes what was served, prints a fault, keeps what is to be kept if all was written, and answers the exit status.
 fn write_and_tell<P: Files + Print + Eprint + AllocGlobal, F: Write + Drop>(
     rt: &P,
     args: MjobsArgs,
@@ -142,7 +142,7 @@ fn write_and_tell<P: Files + Print + Eprint + AllocGlobal, F: Write + Drop>(
     let outcome = match write_served(rt.alloc(), args.listed, served, &mut writer) {
         Ok(()) => Ok(served.refused()),
         Err(fault) => {
-            tell_fault(rt, args, fault, writer.inner().is_closed());
+            tell_fault(rt, args, fault, writer.inner());
             Err(fault)
         }
     };
@@ -156,9 +156,13 @@ fn write_and_tell<P: Files + Print + Eprint + AllocGlobal, F: Write + Drop>(
         );
         print_statistics(rt, PROGRAM, &held);
     }
-    match keeping.write(rt, PROGRAM, served.journal(), &core.content()) {
-        Ok(drafts) => drafts.end(rt, PROGRAM, status_of(&outcome)),
-        Err(status) => status,
+    let status = status_of(&outcome);
+    match outcome {
+        Ok(_) => keeping.keep(rt, PROGRAM, served.journal(), &core.content(), status),
+        Err(_) => {
+            drop(keeping);
+            status
+        }
     }
 }
 

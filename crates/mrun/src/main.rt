@@ -21,7 +21,7 @@ use loading::load_with;
 use program_front::{
     Drafts, Keeping, ListingFile, MrunArgs, NamePlace, Piped, Ticker, arguments_of, keeping_of,
     look_at_input, mrun_args_with, open_input, path_of, print_bad_name, print_fault,
-    print_help_or_error, print_load_fault, print_unread, print_wanting, read_listing,
+    print_help_or_error, print_load_fault, print_unwritten, print_wanting, read_listing,
 };
 use script_run::{Fault, Outcome, run_with_core, status_of};
 use side_log::{SideLog, Source, Telling};
@@ -84,14 +84,13 @@ fn first_core(
     }
 }
 
-// Tells of a want of memory where refused lines are told, and of a fault: of output that nobody reads only where
-// something was to be kept.
-fn tell_outcome(
+// Tells of a want of memory where refused lines are told, and of a fault.
+fn tell_outcome<W>(
     rt: &impl Eprint,
     args: MrunArgs,
     telling: Telling,
     outcome: Result<Outcome, Fault>,
-    is_closed: bool,
+    output: &Piped<W>,
 ) {
     match outcome {
         Ok(outcome) => {
@@ -99,7 +98,9 @@ fn tell_outcome(
                 print_wanting(rt, PROGRAM);
             }
         }
-        Err(Fault::Write) if is_closed => print_unread(rt, PROGRAM, args.names()),
+        Err(Fault::Write) => {
+            print_unwritten(rt, PROGRAM, Fault::Write.text(), args.names(), output);
+        }
         Err(fault) => {
             let _status = print_fault(rt, PROGRAM, fault.text());
         }
@@ -142,8 +143,7 @@ fn run_from<R: Read + Drop, F: Write + Drop>(
         &mut writer,
         &mut log,
     );
-    let is_closed = writer.inner().is_closed();
-    tell_outcome(rt, args, log.telling(), outcome, is_closed);
+    tell_outcome(rt, args, log.telling(), outcome, writer.inner());
     status_after(rt, &outcome, log.take_kept())
 }
 

@@ -46,8 +46,8 @@ pub struct Source<'a> {
 }
 
 /// Tells on standard error of refused lines, of what stands there where Enter alone is typed, of progress, and at the
-/// end of what the engine holds, and writes what is kept then. What can't be printed there is left out; what was written
-/// can be taken.
+/// end of what the engine holds, and writes what is kept then, if the run has gone well. What can't be printed there is
+/// left out; what was written can be taken.
 pub struct SideLog<'a, P, F> {
     rt: &'a P,
     telling: Telling,
@@ -84,7 +84,7 @@ impl<'a, P: Eprint + AllocGlobal + Clock, F: Write + Drop> SideLog<'a, P, F> {
         self.telling
     }
 
-    /// What was written at the end, or the exit status where it couldn't be; none where no end was told of.
+    /// What was written at the end, or the exit status where it couldn't be; none where no end that went well was told of.
     pub fn take_kept(&mut self) -> Option<Result<Drafts<'a>, u8>> {
         self.kept.take()
     }
@@ -136,7 +136,7 @@ impl<'a, P: Files + Eprint + AllocGlobal + Clock, F: Write + Drop> RunLog for Si
         print_look(self.rt, PROGRAM, core, &self.last);
     }
 
-    fn ended(&mut self, core: &JobCore) {
+    fn ended(&mut self, core: &JobCore, is_whole: bool) {
         self.ticker.clear();
         if self.statistics {
             let held = Statistics::of(
@@ -147,7 +147,10 @@ impl<'a, P: Files + Eprint + AllocGlobal + Clock, F: Write + Drop> RunLog for Si
             );
             print_statistics(self.rt, PROGRAM, &held);
         }
-        if let Some(keeping) = self.keeping.take() {
+        let Some(keeping) = self.keeping.take() else {
+            return;
+        };
+        if is_whole {
             let written = keeping.write(self.rt, PROGRAM, core.journal(), &core.content());
             self.kept = Some(written);
         }

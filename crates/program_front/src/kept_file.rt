@@ -5,6 +5,7 @@ ghost use Rattle.journal_lines.specs.Journals.{journal_text};
 ghost use Rattle.listing.specs.Listing.{listing_text};
 
 use crate::in_use::are_one_file;
+use crate::piped::Piped;
 use crate::printing::{FAULT_STATUS, path_of, print_left, print_unkept, print_unput};
 use crate::words::{FileNames, NamePlace};
 use globals::OrderedView;
@@ -12,9 +13,9 @@ use journal::Journal;
 use journal_lines::{JournalFault, write_journal};
 use listing::{Counted, ListingFault, write_listing};
 use std::alloc::Global;
-use std::fs::{Metadata, OpenFile, OpenOptions};
+use std::fs::{Metadata, OpenFile, OpenOptions, Permissions};
 use std::io::{ErrorKind, Write};
-use std::os::unix::fs::{MetadataExt, OpenOptionsExt, chown};
+use std::os::unix::fs::{MetadataExt, OpenOptionsExt, PermissionsExt, lchown};
 use std::rt::Files;
 use std::{fs, io};
 
@@ -22,8 +23,7 @@ use std::{fs, io};
 const MOST_NAMES: usize = 9;
 
 // What is said where all of them are there.
-const ALL_THERE: &str =
-    "its new file can't be made: remove those beside it with .new-1 to .new-9 that no run is writing";
+const ALL_THERE: &str = "remove those of .new-1 to .new-9 beside it that no run is writing";
 
 // What is said where the listing's new file would be the journal's.
 const WRITTEN_BESIDE: &str = "it is first written where the journal is to be";
@@ -33,6 +33,9 @@ const OWNER_ALONE: u32 = 0o600;
 
 // Or everybody, less the process's mask, where no file is there.
 const EVERYBODY: u32 = 0o666;
+
+// What a mode lets the file's group do.
+const GROUP: u32 = 0o070;
 
 // What is kept.
 #[derive(Clone, Copy, Debug, PartialEq, Eq)]
@@ -102,8 +105,8 @@ fn remove(rt: &impl Files, name: &str) {
     let _ = fs::remove_file(rt, name);
 }
 
-// Finds out whether a new file can be created beside this place, and isn't the one that the journal's name stands for,
-// where such a name is given. None is left there.
+// Finds out whether a new file can be created beside this place and removed again, and isn't the one that the journal's
+// name stands for, where such a name is given. None is left there that can be removed.
 fn try_beside(
     rt: &(impl Files + AllocGlobal),
     place: &str,
@@ -115,7 +118,7 @@ fn try_beside(
         Some(journal) => are_one_file(rt, journal, name.as_str()),
         None => false,
     };
-    remove(rt, name.as_str());
+    fs::remove_file(rt, name.as_str())?;
     if is_journal {
         return Err(io::Error::new(ErrorKind::Other, WRITTEN_BESIDE));
     }
@@ -192,19 +195,52 @@ fn place_of<'a, P: Files + Eprint + AllocGlobal>(
     }
 }
 
-// Gives a new file the owner, where the system lets it, and the mode of the file whose place it will take.
-fn take_after(rt: &impl Files, name: &str, known: &Metadata) -> io::Result<()> {
-    let _ = chown(rt, name, Some(known.uid()), Some(known.gid()));
-    fs::set_permissions(rt, name, known.permissions())
+// Gives a new file the owner and the group of the file whose place it will take, where the system lets it, or the group
+// alone. No link is followed: whoever may write in the folder may have put one in the file's place.
+fn take_owner(rt: &impl Files, name: &str, known: &Metadata) {
+    if lchown(rt, name, Some(known.uid()), Some(known.gid())).is_err() {
+        let _ = lchown(rt, name, None, Some(known.gid()));
+    }
+}
+
+// The mode of the file whose place a new one will take, which lets the group do something only if it is that file's.
+fn mode_after(known: &Metadata, new: &Metadata) -> u32 {
+    let mode = known.permissions().mode();
+    if new.gid() == known.gid() {
+        mode
+    } else {
+        mode & !GROUP
+    }
+}
+
+// Gives a new file the owner, the group and the mode of the file whose place it will take, as far as the system lets it.
+fn take_after(
+    rt: &impl Files,
+    name: &str,
+    file: &impl OpenFile,
+    known: &Metadata,
+) -> io::Result<()> {
+    take_owner(rt, name, known);
+    let new = file.metadata()?;
+    file.set_permissions(Permissions::from_mode(mode_after(known, &new)))
+}
+
+// What the system knows of the file in this place, if one is there.
+fn known_at(rt: &impl Files, place: &str) -> io::Result<Option<Metadata>> {
+    match fs::metadata(rt, place) {
+        Ok(known) => Ok(Some(known)),
+        Err(why) if why.kind() == ErrorKind::NotFound => Ok(None),
+        Err(why) => Err(why),
+    }
 }
 
 // A new file for this place, with its name.
 fn begin_beside<P: Files + AllocGlobal>(rt: &P, place: &str) -> io::Result<(String, P::File)> {
-    let Ok(known) = fs::metadata(rt, place) else {
+    let Some(known) = known_at(rt, place)? else {
         return create_beside(rt, place, EVERYBODY);
     };
     let (name, file) = create_beside(rt, place, OWNER_ALONE)?;
-    match take_after(rt, name.as_str(), &known) {
+    match take_after(rt, name.as_str(), &file, &known) {
         Ok(()) => Ok((name, file)),
         Err(why) => {
             drop(file);
@@ -214,19 +250,27 @@ fn begin_beside<P: Files + AllocGlobal>(rt: &P, place: &str) -> io::Result<(Stri
     }
 }
 
+// Why a write failed, as the file knows it.
+fn write_error<F>(file: &Counted<Piped<F>>) -> io::Error {
+    match file.inner().failure() {
+        Some(kind) => io::Error::from(kind),
+        None => io::Error::new(ErrorKind::Other, "a write failed"),
+    }
+}
+
 // Why the journal isn't written whole.
-fn journal_error(fault: JournalFault) -> io::Error {
+fn journal_error<F>(fault: JournalFault, file: &Counted<Piped<F>>) -> io::Error {
     match fault {
-        JournalFault::Write => io::Error::new(ErrorKind::Other, "a write failed"),
+        JournalFault::Write => write_error(file),
         JournalFault::Memory => io::Error::from(ErrorKind::OutOfMemory),
         JournalFault::LetGo => io::Error::new(ErrorKind::Other, "its beginning was dropped"),
     }
 }
 
 // Why the listing isn't written whole.
-fn listing_error(fault: ListingFault) -> io::Error {
+fn listing_error<F>(fault: ListingFault, file: &Counted<Piped<F>>) -> io::Error {
     match fault {
-        ListingFault::Write => io::Error::new(ErrorKind::Other, "a write failed"),
+        ListingFault::Write => write_error(file),
         ListingFault::Memory => io::Error::from(ErrorKind::OutOfMemory),
     }
 }
@@ -237,19 +281,19 @@ fn write_text<V: OrderedView, F: Write>(
     what: Kept,
     journal: &Journal,
     content: &V,
-    file: &mut Counted<F>,
+    file: &mut Counted<Piped<F>>,
 ) -> io::Result<()>
-    ensures journal { what ≡ Kept.Journal → OnOk result (Appends (F.contents file.old.inner) (F.contents file.new.inner) (journal_text journal.now.units)) }
-    ensures listing { what ≡ Kept.Listing → OnOk result (Appends (F.contents file.old.inner) (F.contents file.new.inner) (listing_text (V.content content.now))) }
+    ensures journal { what ≡ Kept.Journal → OnOk result (Appends (F.contents file.old.inner.inner) (F.contents file.new.inner.inner) (journal_text journal.now.units)) }
+    ensures listing { what ≡ Kept.Listing → OnOk result (Appends (F.contents file.old.inner.inner) (F.contents file.new.inner.inner) (listing_text (V.content content.now))) }
 {
     match what {
         Kept::Journal => match write_journal(alloc, journal, file) {
             Ok(()) => Ok(()),
-            Err(fault) => Err(journal_error(fault)),
+            Err(fault) => Err(journal_error(fault, file)),
         },
         Kept::Listing => match write_listing(alloc, content, file) {
             Ok(()) => Ok(()),
-            Err(fault) => Err(listing_error(fault)),
+            Err(fault) => Err(listing_error(fault, file)),
         },
     }
 }
@@ -262,9 +306,9 @@ fn write_and_sync<V: OrderedView, F: Write + OpenFile + Drop>(
     content: &V,
     file: F,
 ) -> io::Result<()> {
-    let mut file = Counted::new(file);
+    let mut file = Counted::new(Piped::new(file));
     write_text(alloc, what, journal, content, &mut file)?;
-    file.inner().sync_all()
+    file.inner().inner().sync_all()
 }
 
 // Writes the text into a new file beside its place, and answers the new file's name. After an error there is none.
@@ -304,7 +348,8 @@ fn write_on_its_way<'a, V: OrderedView, P: Files + AllocGlobal, F: Write + Drop>
     let KeptPlace { what, name, way } = kept;
     match way {
         Way::Straight(file) => {
-            write_text(rt.alloc(), what, journal, content, &mut Counted::new(file))?;
+            let mut file = Counted::new(Piped::new(file));
+            write_text(rt.alloc(), what, journal, content, &mut file)?;
             Ok(None)
         }
         Way::Anew(place) => {
@@ -431,6 +476,27 @@ impl<'a, F: Write + Drop> Keeping<'a, F> {
                 remove_draft(rt, first);
                 Err(status)
             }
+        }
+    }
+}
+
+impl<'a, F: Write + Drop> Keeping<'a, F> {
+    /// Writes the texts and puts them in their places, at the end of a run whose exit status is this so far, and answers
+    /// its last one.
+    pub fn keep<V: OrderedView, P: Files + Eprint + AllocGlobal>(
+        self,
+        rt: &P,
+        program: &str,
+        journal: &Journal,
+        content: &V,
+        status: u8,
+    ) -> u8
+        ensures kept { (result ≡ status) ⊎ (result ≡ FAULT_STATUS) }
+        ensures fault { status ≡ FAULT_STATUS → result ≡ FAULT_STATUS }
+    {
+        match self.write(rt, program, journal, content) {
+            Ok(drafts) => drafts.end(rt, program, status),
+            Err(fault) => fault,
         }
     }
 }

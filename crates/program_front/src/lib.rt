@@ -1,6 +1,6 @@
 //! The front of the programs `mrun` and `mjobs`: what the words after a program's name ask for, what is kept in files at
 //! the end, and what is printed where words are wrong, a file can't be opened, a line is refused or a run ends early. A
-//! writer knows whether its reader has gone, so that a closed pipe ends a run without a line.
+//! writer knows why it failed, and whether its reader has gone, so that a closed pipe ends a run without a line.
 //!
 //! Arguments are bytes, since one may be of any bytes. The parser reads one that isn't UTF-8 with each bad sequence
 //! replaced; its answer says which argument is the file, so that its own bytes are kept and no other file is opened.
@@ -25,7 +25,7 @@ pub use piped::Piped;
 pub use printing::{
     FAULT_STATUS, arguments_of, path_of, print_bad_name, print_fault, print_greeting,
     print_help_or_error, print_jobs_greeting, print_load_fault, print_mark, print_no_transaction,
-    print_refused, print_unloaded, print_unopened, print_unread, print_wanting, room_before,
+    print_refused, print_unloaded, print_unopened, print_unwritten, print_wanting, room_before,
 };
 pub use progress::Progress;
 pub use run_words::{MrunArgs, mrun_args_of, mrun_args_with};

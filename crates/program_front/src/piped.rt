@@ -1,5 +1,5 @@
-//! A writer that knows whether its reader has gone.
-ghost use Rattle.std.specs.Prelude.{◌≡◌, ◌≢◌, true, false, OnOk, IfErr};
+//! A writer that knows why its last write failed, and whether its reader has gone.
+ghost use Rattle.std.specs.Prelude.{◌≡◌, ◌≢◌, true, false, None, Some, OnOk, IfErr};
 ghost use Rattle.std.specs.Io.{WritesAtMost};
 ghost use Rattle.std.specs.Io.KnownBytes.{WriteAppends};
 ghost use Rattle.std.specs.IoError.{error_kind};
@@ -7,11 +7,13 @@ ghost use Rattle.std.specs.IoError.{error_kind};
 use std::io;
 use std::io::{ErrorKind, Write};
 
-/// A writer, and whether a write to it has failed since the pipe is closed: nobody reads what is written.
+/// A writer, whether a write to it has failed since the pipe is closed: nobody reads what is written; and of what kind
+/// its last failure was.
 #[derive(Drop)]
 pub struct Piped<W> {
     inner: W,
     closed: bool,
+    failure: Option<ErrorKind>,
 }
 
 // Whether a write failed since nobody reads.
@@ -27,10 +29,12 @@ impl<W> Piped<W> {
     pub fn new(inner: W) -> Piped<W>
         ensures inner { result.inner ≡ inner }
         ensures closed { result.closed ≡ false }
+        ensures failure { result.failure ≡ None }
     {
         Piped {
             inner,
             closed: false,
+            failure: None,
         }
     }
 
@@ -41,11 +45,27 @@ impl<W> Piped<W> {
         self.closed
     }
 
+    /// Of what kind the last write that failed was; none where no write has failed.
+    pub fn failure(&self) -> Option<ErrorKind>
+        ensures { result ≡ self.now.failure }
+    {
+        self.failure
+    }
+
+    /// What is written to.
+    pub fn inner(&self) -> &W
+        ensures { result.now ≡ self.now.inner }
+    {
+        &self.inner
+    }
+
     fn note_failure(&mut self, why: &io::Error)
         ensures inner { self.new.inner ≡ self.old.inner }
+        ensures failure { self.new.failure ≡ Some (error_kind why.now) }
         ensures broken { error_kind why.now ≡ ErrorKind.BrokenPipe → self.new.closed ≡ true }
         ensures other { error_kind why.now ≢ ErrorKind.BrokenPipe → self.new.closed ≡ self.old.closed }
     {
+        self.failure = Some(why.kind());
         if is_broken_pipe(why) {
             self.closed = true;
         }
@@ -59,7 +79,8 @@ impl<W: Write> Write for Piped<W> {
     fn write(&mut self, buf: &[u8]) -> io::Result<usize>
         ensures bound { WritesAtMost result buf.now }
         ensures bytes { WriteAppends (W.contents self.old.inner) (W.contents self.new.inner) result buf.now }
-        ensures written { OnOk result (self.new.closed ≡ self.old.closed) }
+        ensures written { OnOk result ((self.new.closed ≡ self.old.closed) × (self.new.failure ≡ self.old.failure)) }
+        ensures failed { IfErr result (λ why. self.new.failure ≡ Some (error_kind why)) }
         ensures broken { IfErr result (λ why. error_kind why ≡ ErrorKind.BrokenPipe → self.new.closed ≡ true) }
         ensures other { IfErr result (λ why. error_kind why ≢ ErrorKind.BrokenPipe → self.new.closed ≡ self.old.closed) }
     {

@@ -3,6 +3,7 @@ ghost use Rattle.std.specs.Prelude.{◌≡◌};
 
 use crate::hints::{hint_of, listing_hint};
 use crate::listing_file::ListingFile;
+use crate::piped::Piped;
 use crate::words::FileNames;
 use clap::error::ErrorKind;
 use loading::{FaultyLine, LoadFault};
@@ -153,11 +154,30 @@ pub fn print_wanting(rt: &impl Eprint, program: &str) {
     );
 }
 
-/// Prints, where something was to be kept, that nothing is, since nobody reads the output any more.
-pub fn print_unread(rt: &impl Eprint, program: &str, names: FileNames) {
+// Prints, where something was to be kept, that nothing is, since nobody reads the output any more.
+fn print_unread(rt: &impl Eprint, program: &str, names: FileNames) {
     if names.keep_something() {
         let _ = eprintln!(rt; "{program}: nobody reads the output any more, so nothing is kept");
     }
+}
+
+/// Prints that output can't be written, and why; where nobody reads it any more, only that nothing is kept, if something
+/// was to be.
+pub fn print_unwritten<W>(
+    rt: &impl Eprint,
+    program: &str,
+    fault: &str,
+    names: FileNames,
+    output: &Piped<W>,
+) {
+    if output.is_closed() {
+        print_unread(rt, program, names);
+        return;
+    }
+    let _ = match output.failure() {
+        Some(kind) => eprintln!(rt; "{program}: {fault}: {kind}"),
+        None => eprintln!(rt; "{program}: {fault}"),
+    };
 }
 
 /// Prints that a file can't be opened, and why, and answers the exit status.

@@ -15,10 +15,10 @@ pub trait RunLog {
     /// written.
     fn shown(&mut self, core: &JobCore);
 
-    /// The run is over, well or not; not told where memory was refused for the run's buffer. This is what the core
-    /// holds then. Where the run ended before the last line was done, no open job was halted; else each that was at work
+    /// The run is over, and its output is whole or not; not told where memory was refused for the run's buffer. This is
+    /// what the core holds then. Where the run ended before the last line was done, no open job was halted; else each that was at work
     /// was, unless the journal was full (`halt_open`).
-    fn ended(&mut self, core: &JobCore);
+    fn ended(&mut self, core: &JobCore, is_whole: bool);
 }
 
 /// A log that keeps nothing.
@@ -34,5 +34,5 @@ impl RunLog for NoLog {
 
     fn shown(&mut self, _core: &JobCore) {}
 
-    fn ended(&mut self, _core: &JobCore) {}
+    fn ended(&mut self, _core: &JobCore, _is_whole: bool) {}
 }

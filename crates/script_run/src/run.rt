@@ -165,8 +165,8 @@ fn run_pieces<R: Read, W: Write>(
 }
 
 // Shows the log what the core holds, and gives all back.
-fn end(script: Script, log: &mut impl RunLog) {
-    log.ended(&script.core);
+fn end(script: Script, log: &mut impl RunLog, is_whole: bool) {
+    log.ended(&script.core, is_whole);
     drop(script);
 }
 
@@ -227,19 +227,19 @@ fn run_whole<R: Read, W: Write>(
     match run_pieces(alloc, listed, &mut script, reader, writer, log) {
         Ok(()) => {
             let outcome = script.outcome;
-            end(script, log);
+            end(script, log, true);
             Ok(outcome)
         }
         Err(Fault::Memory) => {
             let written = writer.write_gathered(&mut script.out);
-            end(script, log);
+            end(script, log, false);
             match written {
                 Ok(()) => Err(Fault::Memory),
                 Err(_) => Err(Fault::Write),
             }
         }
         Err(fault) => {
-            end(script, log);
+            end(script, log, false);
             Err(fault)
         }
     }
@@ -280,8 +280,8 @@ pub fn run_with_core<R: Read, W: Write>(
 
 /// Runs a script as `run_script` does. Without `listed` neither `--` nor the listing is written. `log` is told of each
 /// refused line and of each line that is done, after which it may ask to be shown the core; then all replies are
-/// written first. It is told once of what the core holds when the run is over, but not where memory was refused for the
-/// run's buffer.
+/// written first. It is told once of what the core holds when the run is over, and whether its output is whole, but not
+/// where memory was refused for the run's buffer.
 ///
 /// The clauses name no `upkeep`: what is written is promised alike for each.
 pub fn run_with<R: Read, W: Write>(

@@ -41,8 +41,9 @@ pub struct Upkeep {
     pub collector: Pace,
     /// For checkpoints, each of which comes after the collector at the same line. `Every` leaves one out where it would
     /// drop fewer units than the journal's base has nodes and held names, since these it moves and copies. `WhereCheap`
-    /// has one due after 1,024 lines, or more where the last one has copied long values; it stays due until no
-    /// transaction is open and it drops eight units for each node and held name.
+    /// has one due after 1,024 lines; it stays due until no transaction is open, it drops eight units for each node and
+    /// held name, and what came since the last one outweighs the values that this one copied: a unit sixteen of their
+    /// bytes, or eight bytes of journal one.
     pub checkpoints: Pace,
 }
 
@@ -63,6 +64,9 @@ const CHEAP_LINES: u64 = 1024;
 
 // How many bytes of values a checkpoint copies in a fiftieth of the time of a line, or less.
 const VALUE_BYTES: u64 = 16;
+
+// How many bytes of the journal take at least twenty times as long to write as a byte of a value to copy.
+const JOURNAL_BYTES: u64 = 8;
 
 // After how many lines it is looked again where a checkpoint found no memory: it may have copied much until then.
 const LINES_AFTER_WANT: u64 = 16384;
@@ -123,21 +127,24 @@ impl Countdown {
     }
 }
 
-/// When the collector and the next checkpoint are due.
+/// When the collector and the next checkpoint are due, and how many bytes of values the last one copied that waited until
+/// it cost little.
 #[derive(Clone, Copy, Drop)]
 pub struct Due {
     collector: Countdown,
     checkpoint: Countdown,
+    copied: u64,
 }
 
 impl Due {
     /// Before the first line.
     pub fn new(upkeep: Upkeep) -> Due
-        ensures { result ≡ record { collector = counting upkeep.collector; checkpoint = counting upkeep.checkpoints } }
+        ensures { result ≡ record { collector = counting upkeep.collector; checkpoint = counting upkeep.checkpoints; copied = 0 } }
     {
         Due {
             collector: Countdown::new(upkeep.collector),
             checkpoint: Countdown::new(upkeep.checkpoints),
+            copied: 0,
         }
     }
 }
@@ -186,23 +193,27 @@ fn value_bytes(nodes: &[(Key, Text)]) -> u64 {
     bytes
 }
 
-// For how many lines none is taken after one that has copied these nodes: more where their values are long.
-fn lines_between(nodes: &[(Key, Text)]) -> u64
-    ensures { CHEAP_LINES ≤ result }
-{
-    CHEAP_LINES.max(value_bytes(nodes) / VALUE_BYTES)
+// Whether what came since the last checkpoint outweighs these bytes of values: by its units, or by its bytes.
+fn is_worth_copying(core: &JobCore, bytes: u64) -> bool {
+    let journal = core.journal();
+    let units = journal.len().saturating_sub(core.base().number());
+    units.saturating_mul(VALUE_BYTES) >= bytes || journal.size() as u64 / JOURNAL_BYTES >= bytes
 }
 
-// A checkpoint that is due, where it costs little. Answers after how many lines it is looked for again.
-fn checkpoint_where_cheap(core: &mut JobCore) -> u64
+// A checkpoint that is due, where it costs little beside one that copied so many bytes of values, which are then those
+// that it copied. Answers after how many lines it is looked for again.
+fn checkpoint_where_cheap(copied: &mut u64, core: &mut JobCore) -> u64
     ensures machine { core.new.machine ≡ core.old.machine }
     ensures tried { IsTried result core.old core.new }
 {
-    if !core.checkpoint_costs_little() {
+    if !core.checkpoint_costs_little() || !is_worth_copying(core, *copied) {
         return 1;
     }
     match core.checkpoint() {
-        Ok(_) => lines_between(core.base().nodes()),
+        Ok(_) => {
+            *copied = value_bytes(core.base().nodes());
+            CHEAP_LINES
+        }
         Err(_) => LINES_AFTER_WANT,
     }
 }
@@ -219,7 +230,7 @@ fn checkpoint_at_its_line(countdown: &mut Countdown, core: &mut JobCore)
 }
 
 // A checkpoint, where one is due. One that waits until it costs little stays due until then.
-fn checkpoint_when_due(countdown: &mut Countdown, core: &mut JobCore)
+fn checkpoint_when_due(countdown: &mut Countdown, copied: &mut u64, core: &mut JobCore)
     ensures machine { core.new.machine ≡ core.old.machine }
     ensures only_when_due { (countdown.old.left == 1) ≡ false → core.new ≡ core.old }
     ensures next { is_awaited countdown.old ≡ false → countdown.new ≡ counted countdown.old }
@@ -227,7 +238,7 @@ fn checkpoint_when_due(countdown: &mut Countdown, core: &mut JobCore)
     ensures tried { is_awaited countdown.old ≡ true → IsTried countdown.new.left core.old core.new }
 {
     if countdown.is_awaited() {
-        countdown.left = checkpoint_where_cheap(core);
+        countdown.left = checkpoint_where_cheap(copied, core);
     } else {
         checkpoint_at_its_line(countdown, core);
     }
@@ -245,5 +256,5 @@ pub fn keep_up(due: &mut Due, core: &mut JobCore)
     ensures tried { is_awaited due.old.checkpoint ≡ true → IsTried due.new.checkpoint.left core.old core.new }
 {
     collect_when_due(&mut due.collector, core);
-    checkpoint_when_due(&mut due.checkpoint, core);
+    checkpoint_when_due(&mut due.checkpoint, &mut due.copied, core);
 }
