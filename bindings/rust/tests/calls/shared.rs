@@ -132,6 +132,21 @@ fn a_hold_ends_with_its_closure() -> Result<(), Error> {
     other.set(&key("^A"), "1")
 }
 
+/// And one of a view, which lasts: else another's call would wait for ever.
+#[test]
+fn a_hold_of_a_view_ends_with_its_closure() -> Result<(), Error> {
+    let (_database, mut one, mut other) = two();
+    let mut view = one.view()?;
+    let hold = std::panic::AssertUnwindSafe(|| view.hold(|_| panic!("on purpose")));
+    assert!(std::panic::catch_unwind(hold).is_err());
+    let (done, is_done) = std::sync::mpsc::channel();
+    let setting = std::thread::spawn(move || done.send(other.set(&key("^A"), "1").is_ok()));
+    assert_eq!(is_done.recv_timeout(std::time::Duration::from_secs(20)), Ok(true));
+    setting.join().expect("the thread ends").expect("it is heard");
+    drop(view);
+    Ok(())
+}
+
 #[test]
 fn a_view_stays() -> Result<(), Error> {
     let (_database, mut one, mut other) = two();
