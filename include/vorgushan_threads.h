@@ -215,41 +215,41 @@ static inline void vgt_let_go(vgt_session *session) {
     vorgushan_s_release(&session->own);
 }
 
-/* How many calls may pass those that are queued; how often the first of these looks whether it is next before it lets
- * others run meanwhile, and before it sleeps; how many of the processor's pauses lie between two looks, and between two
- * at how many have passed. */
+/* How many calls may pass those that are queued; how many of the processor's pauses the first of these makes between two
+ * looks, how often it looks before it lets others run meanwhile, and before it sleeps. */
 enum {
-    VGT_MOST_PASSED = 128,
-    VGT_QUEUE_SPINNING_TURNS = 8,
-    VGT_QUEUE_TURNS = 40,
-    VGT_QUEUE_PAUSES = 2048,
-    VGT_COUNT_PAUSES = 64
+    VGT_MOST_PASSED = 256,
+    VGT_QUEUE_PAUSES = 128,
+    VGT_QUEUE_SPINNING_TURNS = 128,
+    VGT_QUEUE_TURNS = 512
 };
 
-/* Whether as many calls have passed those that are queued as may. */
-static inline int vgt_have_most_passed(vgt_hub *hub) {
-    return __atomic_load_n(&hub->passed, __ATOMIC_RELAXED) >= VGT_MOST_PASSED;
+static inline unsigned vgt_passed(vgt_hub *hub) {
+    return __atomic_load_n(&hub->passed, __ATOMIC_RELAXED);
 }
 
 /* Whether a call is next at once. It may pass queued ones: so a thread does several calls before all that they touch goes
  * to another processor. */
 static inline int vgt_is_next(vgt_hub *hub) {
     const unsigned queued = __atomic_load_n(&hub->queued, __ATOMIC_RELAXED);
-    if ((queued > 0 && vgt_have_most_passed(hub)) || pthread_mutex_trylock(&hub->writing))
+    if ((queued > 0 && vgt_passed(hub) >= VGT_MOST_PASSED) || pthread_mutex_trylock(&hub->writing))
         return 0;
     if (queued > 0)
         __atomic_add_fetch(&hub->passed, 1, __ATOMIC_RELAXED);
     return 1;
 }
 
-/* Waits until the first of the queued calls is next. */
+/* Waits until the first of the queued calls is next: it tries where no call has passed since the last look, or as many
+ * have as may. */
 static inline void vgt_follow(vgt_hub *hub) {
-    unsigned turn, spin;
+    unsigned turn, spin, passed, seen = vgt_passed(hub);
     for (turn = 0; turn < VGT_QUEUE_TURNS; turn++) {
-        if (!pthread_mutex_trylock(&hub->writing))
-            return;
-        for (spin = 1; spin < VGT_QUEUE_PAUSES && (spin % VGT_COUNT_PAUSES || !vgt_have_most_passed(hub)); spin++)
+        for (spin = 0; spin < VGT_QUEUE_PAUSES; spin++)
             __builtin_ia32_pause();
+        passed = vgt_passed(hub);
+        if ((passed == seen || passed >= VGT_MOST_PASSED) && !pthread_mutex_trylock(&hub->writing))
+            return;
+        seen = passed;
         if (turn >= VGT_QUEUE_SPINNING_TURNS)
             sched_yield();
     }
@@ -257,7 +257,7 @@ static inline void vgt_follow(vgt_hub *hub) {
 }
 
 /* Calls that may need the database for themselves come one after another: where all of them tried for it, each would
- * keep the others from it. One looks seldom whether it is next, the others sleep, and few pass them. Returns whether the
+ * keep the others from it. One looks whether it is next, the others sleep, and few pass them. Returns whether the
  * call was queued. */
 static inline int vgt_queue(vgt_hub *hub) {
     if (!hub || vgt_is_next(hub))

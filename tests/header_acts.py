@@ -100,7 +100,7 @@ THREAD_ACTS = [
     ("queue_of_no_hub", "    if (!hub || vgt_is_next(hub))", "    if (vgt_is_next(hub))"),
     ("queue_left_by_no_hub", "    if (!hub)\n        return;\n    pthread_mutex_unlock", "    pthread_mutex_unlock"),
     ("next_in_the_queue_for_ever", "        pthread_mutex_unlock(&hub->following);\n", "        ;\n"),
-    ("queued_calls_passed_for_ever", "(queued > 0 && vgt_have_most_passed(hub)) || ", ""),
+    ("queued_calls_passed_for_ever", "(queued > 0 && vgt_passed(hub) >= VGT_MOST_PASSED) || ", ""),
     ("passing_not_counted", "        __atomic_add_fetch(&hub->passed, 1, __ATOMIC_RELAXED);\n", "        ;\n"),
     ("busy_look_told", "vgt_pause(&vgt_turn);", "break;"),
     ("writers_never_in_line", "    if (*turn == 0)\n", "    if (0)\n"),
