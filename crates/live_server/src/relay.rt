@@ -31,7 +31,8 @@ pub trait Teller {
     /// is just one.
     fn tell_waits(&self, job: Job, line: &[u8], holder: Option<Job>);
 
-    /// Of all open jobs this was told: they have waited for a second. Input hasn't ended, and the run goes on.
+    /// Of all open jobs this was told, or of those that wait for each other in a circle: they have waited for a second.
+    /// Input hasn't ended, and the run goes on.
     fn tell_standstill(&self);
 }
 

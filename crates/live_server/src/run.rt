@@ -482,7 +482,7 @@ fn run_pieces<A: Arrivals, W: Write>(
 {
     let mut begun = Vec::new(alloc);
     let mut buffer = [0; TAKEN_BYTES];
-    let mut standstill = Standstill::new();
+    let mut standstill = Standstill::new(alloc);
     'pieces: for _ in 0..u64::MAX {
         let is_over = come(
             alloc,
