@@ -265,20 +265,20 @@ BrokeEnd-then listed ls ms a b p q r h k = record {
 
 -- ---- a run that was new
 
-new_queued : (a : Live) → IsNew a → (who : Option ℕ) → queued who a.desks ≡ []
+pub new_queued : (a : Live) → IsNew a → (who : Option ℕ) → queued who a.desks ≡ []
 new_queued a new who = none_queued a.desks (λ job. ap (λ (d : DeskShown). d.lines) (new.desks job)) who
 
-new_waiting : (a : Live) → IsNew a → (who : Option ℕ) → waiting_at who a.desks ≡ None
+pub new_waiting : (a : Live) → IsNew a → (who : Option ℕ) → waiting_at who a.desks ≡ None
 new_waiting a new who = none_waiting a.desks (λ job. ap (λ (d : DeskShown). d.lines) (new.desks job)) who
 
-new_turns : (a : Live) (acts : List Act) → IsNew a → (who : Option ℕ) → AreInTurn who (waiting_at who a.desks) acts → AreInTurn who None acts
+pub new_turns : (a : Live) (acts : List Act) → IsNew a → (who : Option ℕ) → AreInTurn who (waiting_at who a.desks) acts → AreInTurn who None acts
 new_turns a acts new who h = subst (λ (w : Option (List ℕ)). AreInTurn who w acts) (new_waiting a new who) h
 
-new_last : (a : Live) (left : Option ℕ → List (List ℕ)) (acts : List Act) → IsNew a → AreLast left a.script.jobs acts → AreLast left [] acts
+pub new_last : (a : Live) (left : Option ℕ → List (List ℕ)) (acts : List Act) → IsNew a → AreLast left a.script.jobs acts → AreLast left [] acts
 new_last a left acts new h = subst (λ (jobs : List ℕ). AreLast left jobs acts) new.jobs h
 
 -- all the lines of what was read
-all_lines : (bytes begun : List ℕ) (lines : List (List ℕ)) → ((more : List ℕ) → lines_of (bytes ++ more) ≡ lines ++ lines_of (begun ++ more)) → has_no_end begun ≡ true → lines_of bytes ≡ lines ++ nonempty_line begun
+pub all_lines : (bytes begun : List ℕ) (lines : List (List ℕ)) → ((more : List ℕ) → lines_of (bytes ++ more) ≡ lines ++ lines_of (begun ++ more)) → has_no_end begun ≡ true → lines_of bytes ≡ lines ++ nonempty_line begun
 all_lines bytes begun lines split whole = ap lines_of (sym (append-nil bytes)) ∙ split [] ∙ ap (λ (t : List ℕ). lines ++ lines_of t) (append-nil begun) ∙ ap (λ (l : List (List ℕ)). lines ++ l) (last_line begun whole)
 
 wrote_all : (listed : Bool) (bytes : List ℕ) (ls : List (List ℕ)) (a c : Live) (p r : Option (List ℕ)) → IsNew a → lines_of bytes ≡ ls → RanEnd listed ls a c p r → Wrote a.script.core.machine listed bytes c.script.outcome p r

@@ -2,6 +2,7 @@ pub mod Had
 pub mod Acts
 pub mod Steps
 pub mod Ends
+pub mod Answered
 pub mod Owned
 pub mod Begins
 pub mod Relays

@@ -27,7 +27,7 @@ use Rattle.live_server.specs.Live.{Act, answered, kept_off, over, all_left_by, i
 use Rattle.live_server.specs.Desks.{DeskShown, desk_of, HasChangedAt, pushed, passed, tried, queued, first_of, first_tried, waiting_at}
 use Rattle.live_server.specs.Runs.{Follow, HaveHalted, RanAt, BrokeAt, Ran, Broke, Settled, Unsettled, Lacked, IsIdle, IsFair, IsDone, IsKeptOff, IsKept, HasCome, HasTried, IsLostFairly}
 use Rattle.live_server.specs.declared.live.Live.{Live}
-use Rattle.live_server.proofs.Acts.{left-append, acts-append, answers-append, answered-append, lines-append, text-append, waiting-append, turns-append, open-append, none_over-append, last-none, last-append, same_is}
+use Rattle.live_server.proofs.Acts.{left-append, acts-append, answers-append, answered-append, lines-append, text-append, waiting-append, turns-append, open-append, none_over-append, last-behind, last-none, last-append, same_is}
 
 -- nothing was written
 pub nothing_begun : (a : Option (List ℕ)) (x : List ℕ) → WritesBeginning a a x
@@ -174,6 +174,11 @@ follow_left acts s old left h job = h.of_lines (Some job) ∙ append-nil (queued
 last_then : (left : Option ℕ → List (List ℕ)) (ls : List (List ℕ)) (a b : Live) (p q : Option (List ℕ)) (h : RanAt true ls a b p q) (acts : List Act) → Follow [] acts b.script.core.machine b.desks left → AreLast left b.script.jobs acts → AreLast left a.script.jobs (h.acts ++ acts)
 last_then left ls a b p q h acts follow last =
     last-append left (λ who. queued who b.desks) a.script.jobs h.acts acts (follow_left acts b.script.core.machine b.desks left follow) h.halts (subst (λ (jobs : List ℕ). AreLast left jobs acts) h.jobs last)
+
+-- lines came, and more at the end of input
+pub Ran-settled : (ls ms : List (List ℕ)) (a b c : Live) (p q r : Option (List ℕ)) → Ran ls a b p q → RanAt true ms b c q r → RanAt true (ls ++ ms) a c p r
+Ran-settled ls ms a b c p q r h k =
+    ran_then false true ls ms a b c p q r h k (last-behind (λ who. queued who c.desks) a.script.jobs h.acts k.acts h.halts (subst (λ (jobs : List ℕ). AreLast (λ who. queued who c.desks) jobs k.acts) h.jobs k.halts))
 
 pub Settled-then : (ls : List (List ℕ)) (a b c : Live) (p q r : Option (List ℕ)) → RanAt true ls a b p q → Settled b c q r → RanAt true ls a c p r
 Settled-then ls a b c p q r h k =

@@ -1,5 +1,5 @@
 -- What a live run writes. Source: docs/PROGRAMS.md, "mjobs --live".
--- Read Act, AreActs, AreInTurn, AreLast, then IsLive, Wrote and IsBegun; the contract of run_live cites these.
+-- Read Act, AreActs, AreInTurn, AreLast, then IsLive, Wrote, IsBegun, HasAnswered and HasRead; the contract of run_live cites these.
 use Rattle.std.specs.Prelude.{◌≡◌, ◌⊎◌, ⊤, ℕ, ◌==◌, Bool, true, false, List, [], ◌∷◌, ◌++◌, map, Option, None, Some, if◌then◌else◌}
 use Rattle.std.specs.List.{filter}
 use Rattle.std.specs.Io.KnownBytes.{Appends}
@@ -12,12 +12,12 @@ use Rattle.serial.specs.Answers.{told_by}
 use Rattle.serial.specs.Machine.{IsReply, run_of}
 use Rattle.script.specs.Line.{reading_of, job_of_line}
 use Rattle.job_scripts.specs.Timeouts.{has_timeout}
-use Rattle.script_run.specs.Lines.{lines_of}
+use Rattle.script_run.specs.Lines.{lines_of, has_no_end}
 use Rattle.script_run.specs.OpenJobs.{is_open, open_after, without_job}
 use Rattle.script_run.specs.Output.{Answer, IsAnswer, accepted_job, ends_session, halts_of, text_of, outcome_of, ending}
 use Rattle.script_run.specs.declared.outcome.Outcome.{Outcome}
 use Rattle.listing.specs.Bytes.{WritesBeginning}
-use Rattle.live_server.specs.Desks.{first_of}
+use Rattle.live_server.specs.Desks.{DeskShown, first_of, queued, waiting_at}
 
 -- ---- what the machine did, in order
 
@@ -158,6 +158,25 @@ pub record IsBegun (start : Machine) (listed : Bool) (bytes : List ℕ) (old new
   pub of_lines : (who : Option ℕ) → answered_of who acts ++ left who ≡ lines_with who (lines_of bytes)
   pub front : (behind ≡ []) ⊎ (((who : Option ℕ) → left who ≡ []) × (behind ≡ ending listed (after (left_at_end acts [] start).units initial).map))
   pub written : WritesBeginning old new (text_of (answers_in acts) ++ behind)
+
+-- these lines came: each was answered or lies on its job's desk, the machine is as the acts leave it, and just the whole replies were written
+pub record HasAnswered (start now : Machine) (desks : List DeskShown) (lines : List (List ℕ)) (old new : Option (List ℕ)) : Type 0 where
+  pub acts : List Act
+  pub each : AreActs start acts
+  pub in_turn : (who : Option ℕ) → AreInTurn who None acts
+  pub waits : (who : Option ℕ) → waiting_in who None acts ≡ waiting_at who desks
+  pub last : AreLast (λ who. queued who desks) [] acts
+  pub of_lines : (who : Option ℕ) → answered_of who acts ++ queued who desks ≡ lines_with who lines
+  pub machine : now ≡ all_left_by acts start
+  pub written : Appends old new (text_of (answers_in acts))
+
+-- the lines that had ended in these bytes came so: those of the bytes, whatever would follow them, before the one that had begun
+pub record HasRead (start now : Machine) (desks : List DeskShown) (bytes : List ℕ) (old new : Option (List ℕ)) : Type 0 where
+  pub lines : List (List ℕ)
+  pub begun : List ℕ
+  pub split : (more : List ℕ) → lines_of (bytes ++ more) ≡ lines ++ lines_of (begun ++ more)
+  pub whole : has_no_end begun ≡ true
+  pub answered : HasAnswered start now desks lines old new
 
 -- ---- what follows from this
 

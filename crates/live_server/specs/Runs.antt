@@ -103,6 +103,18 @@ pub record HasTaken (were are begun next : List ℕ) (old new : Live) (before no
   pub front : RanFront (begun ++ piece) next old new before now
   pub whole : has_no_end next ≡ true
 
+-- nothing was taken or done
+pub record HasStood (were are begun next : List ℕ) (old new : Live) (before now : Option (List ℕ)) : Type 0 where
+  pub taken : are ≡ were
+  pub kept : next ≡ begun
+  pub live : new ≡ old
+  pub text : now ≡ before
+
+-- these lines came at the end of input, others were done or wait on, and all replies were written
+pub record HasSettled (lines : List (List ℕ)) (old new : Live) (before now : Option (List ℕ)) : Type 0 where
+  pub ran : RanAt true lines old new before now
+  pub empty : new.script.out.items ≡ []
+
 -- a piece was taken, and the run broke off in it
 pub record HasBrokenOff (were are begun : List ℕ) (old : Live) (before now : Option (List ℕ)) : Type 0 where
   pub piece : List ℕ

@@ -14,6 +14,6 @@ pub trait Bell {
     /// is just one.
     fn waits(&self, job: Job, line: &[u8], holder: Option<Job>);
 
-    /// Of all open jobs this was told. Input hasn't ended.
+    /// Of all open jobs this was told, or of those that wait for each other in a circle. Input hasn't ended.
     fn stands_still(&self);
 }

@@ -130,10 +130,11 @@ impl Desk {
     }
 }
 
-/// A job whose first line waits, and until when it does, where it has a timeout.
+/// A job whose first line waits, since when, and until when it does, where it has a timeout.
 #[derive(Clone, Copy, Debug, Drop)]
 pub(crate) struct Waiting {
     pub(crate) job: Job,
+    pub(crate) since: u64,
     pub(crate) until: Option<u64>,
 }
 
@@ -144,6 +145,8 @@ pub(crate) struct Desks {
     order: Vec<Waiting>,
     // When the first of those that wait with a timeout is due.
     due: Option<u64>,
+    // When the last of those without a timeout began to wait, whether it waits still or not.
+    patient: Option<u64>,
 }
 
 impl Model for Desks {
@@ -172,6 +175,7 @@ impl Desks {
             desks,
             order,
             due: None,
+            patient: None,
         })
     }
 
@@ -224,13 +228,21 @@ impl Desks {
         self.desks[job.number() as usize].pass();
     }
 
-    /// The job's first line was tried in vain: it waits, behind those that came before it.
-    pub(crate) fn wait(&mut self, job: Job, until: Option<u64>) -> Result<(), AllocError>
+    /// The job's first line was tried in vain: it waits since now, behind those that came before it.
+    pub(crate) fn wait(
+        &mut self,
+        job: Job,
+        since: u64,
+        until: Option<u64>,
+    ) -> Result<(), AllocError>
         ensures { HasChangedAt job tried self.old self.new }
     {
         self.desks[job.number() as usize].try_in_vain();
-        self.order.push(Waiting { job, until })?;
+        self.order.push(Waiting { job, since, until })?;
         self.due = earlier(self.due, until);
+        if until.is_none() {
+            self.patient = Some(since);
+        }
         Ok(())
     }
 
@@ -261,6 +273,11 @@ impl Desks {
         self.due
     }
 
+    /// When the last LOCK without a timeout began to wait.
+    pub(crate) fn last_patient(&self) -> Option<u64> {
+        self.patient
+    }
+
     /// Whether no line waits.
     #[tactic(auto, using(crate::proofs::Owned::none_before, crate::proofs::Owned::one_more_empty, crate::proofs::Owned::all_empty))]
     pub(crate) fn are_empty(&self) -> bool
@@ -285,8 +302,8 @@ fn first_due_of(order: &[Waiting]) -> Option<u64> {
     first
 }
 
-// The earlier of two times, where there are such.
-fn earlier(a: Option<u64>, b: Option<u64>) -> Option<u64> {
+/// The earlier of two times, where there are such.
+pub(crate) fn earlier(a: Option<u64>, b: Option<u64>) -> Option<u64> {
     match (a, b) {
         (Some(a), Some(b)) => Some(a.min(b)),
         (None, b) => b,

@@ -13,7 +13,8 @@
 //! A job's lines behind a LOCK that waits lie on its desk (`desks.rt`). Once names may have been freed the LOCKs that
 //! wait are looked at in the order in which they came, and each that would have its names now is done; so is one whose
 //! time is over. After the last line jobs without lines are halted while others wait. Where those that are left wait
-//! without a timeout, the run ends (`LiveFault::Stuck`). While input is open that is only told (`standstill.rt`).
+//! without a timeout, the run ends (`LiveFault::Stuck`). While input is open that is only told (`standstill.rt`), and
+//! so are jobs that wait for each other in a circle, whatever other jobs do (`circles.rt`).
 //!
 //! The thread that reads isn't the one that runs: bytes go through a ring between them (`reading.rt`, `arrived.rt`).
 //! `run_live` promises what it does of the bytes that it took (`Arrivals`), `relay_live` of those that the reader had.
@@ -33,6 +34,7 @@ pub use run::run_live;
 mod arrivals;
 mod arrived;
 mod bell;
+mod circles;
 mod desks;
 mod fault;
 mod hall;

@@ -346,9 +346,9 @@ pub(crate) fn take_line(
 }
 
 // When a LOCK in this line, which is tried now, is due.
-fn due_of(line: &[u8], bell: &impl Bell) -> Option<u64> {
+fn due_of(line: &[u8], now: u64) -> Option<u64> {
     let millis = timeout_of(line)?;
-    Some(bell.now().saturating_add(millis))
+    Some(now.saturating_add(millis))
 }
 
 // Whether the reply says that the names weren't had, to a LOCK in this line that waits for them.
@@ -442,8 +442,9 @@ pub(crate) fn do_first(
         live.desks.pass(job);
         return Ok(true);
     }
-    let until = due_of(text, bell);
-    live.desks.wait(job, until)?;
+    let now = bell.now();
+    let until = due_of(text, now);
+    live.desks.wait(job, now, until)?;
     Ok(false)
 }
 

@@ -1,9 +1,11 @@
 //! One thread reads, another runs live: bytes go through a ring from the one to the other.
-ghost use Rattle.std.specs.Prelude.{◌≡◌, [], true, Ok, IfOk, IfSome, OnErr};
+ghost use Rattle.std.specs.Prelude.{◌≡◌, ◌⊎◌, [], true, Ok, Err, IfOk, IfSome, OnErr, IsErrOf};
 ghost use Rattle.rtrb.specs.Ring.{received, sent, IsPair};
 ghost use Rattle.live_server.specs.Runs.{IsNew};
-ghost use Rattle.live_server.specs.Live.{Wrote, IsBegun};
-ghost use Rattle.live_server.specs.Relays.{HasBegun, IsFrontOf};
+ghost use Rattle.script_run.specs.Lines.{lines_of};
+ghost use Rattle.script_run.specs.declared.outcome.Outcome.{Outcome as OutcomeShown};
+ghost use Rattle.live_server.specs.Live.{Wrote, IsBegun, HasAnswered, HasRead};
+ghost use Rattle.live_server.specs.Relays.{HasBegun, HasReadFront, HasAnsweredFront, IsFrontOf};
 
 use crate::arrived::{Arrived, Begun};
 use crate::hall::Hall;
@@ -31,7 +33,8 @@ pub trait Teller {
     /// is just one.
     fn tell_waits(&self, job: Job, line: &[u8], holder: Option<Job>);
 
-    /// Of all open jobs this was told: they have waited for a second. Input hasn't ended, and the run goes on.
+    /// Of all open jobs this was told, or of those that wait for each other in a circle: they have waited for a second.
+    /// Input hasn't ended, and the run goes on.
     fn tell_standstill(&self);
 }
 
@@ -99,6 +102,8 @@ fn run_on_ring<R: Wait + Clock, W: Write, T: Teller>(
     ensures pair { IsPair other.value result.1 }
     ensures output { IfOk result.0 (λ outcome. Wrote live.old.script.core.machine listed (received result.1) outcome (W.contents writer.old.inner) (W.contents writer.new.inner)) }
     ensures begun { OnErr result.0 (IsBegun live.old.script.core.machine listed (received result.1) (W.contents writer.old.inner) (W.contents writer.new.inner)) }
+    ensures read { IsErrOf result.0 LiveFault.Read → HasRead live.old.script.core.machine live.new.script.core.machine live.new.desks (received result.1) (W.contents writer.old.inner) (W.contents writer.new.inner) }
+    ensures stuck { IsErrOf result.0 LiveFault.Stuck → HasAnswered live.old.script.core.machine live.new.script.core.machine live.new.desks (lines_of (received result.1)) (W.contents writer.old.inner) (W.contents writer.new.inner) }
 {
     let begun = Begun::now(rt);
     let watch = Watch { rt, begun, teller };
@@ -123,6 +128,8 @@ fn joined(
     requires pair { IsPair put.ring ring }
     ensures all { IfOk result (λ o. (outcome ≡ Ok o) × (put.is_all ≡ true) × (received ring ≡ sent put.ring)) }
     ensures front { IsFrontOf (received ring) (sent put.ring) }
+    ensures read { IsErrOf result LiveFault.Read → (outcome ≡ Err LiveFault.Read) ⊎ ((o : OutcomeShown) × (outcome ≡ Ok o)) }
+    ensures stuck { IsErrOf result LiveFault.Stuck → outcome ≡ Err LiveFault.Stuck }
 {
     let mut ring = ring;
     let mut put = put;
@@ -167,6 +174,10 @@ fn run_beside<
         (λ bytes. Wrote live.script.core.machine listed bytes outcome (W.contents writer.inner) (W.contents result.writer.inner))) }
     ensures begun { OnErr result.outcome (IfSome (I.remaining reader)
         (λ bytes. HasBegun live.script.core.machine listed bytes (W.contents writer.inner) (W.contents result.writer.inner))) }
+    ensures read { IsErrOf result.outcome LiveFault.Read → IfSome (I.remaining reader)
+        (λ bytes. HasReadFront live.script.core.machine result.live.script.core.machine result.live.desks listed bytes (W.contents writer.inner) (W.contents result.writer.inner)) }
+    ensures stuck { IsErrOf result.outcome LiveFault.Stuck → IfSome (I.remaining reader)
+        (λ bytes. HasAnsweredFront live.script.core.machine result.live.script.core.machine result.live.desks bytes (W.contents writer.inner) (W.contents result.writer.inner)) }
 {
     let other = Snapshot::of(&producer);
     let Some(reading) = start_reading(scope, rt, hall, reader, producer) else {
@@ -226,6 +237,10 @@ fn run_with_ring<
         (λ bytes. Wrote live.script.core.machine listed bytes outcome (W.contents writer.inner) (W.contents result.writer.inner))) }
     ensures begun { OnErr result.outcome (IfSome (I.remaining reader)
         (λ bytes. HasBegun live.script.core.machine listed bytes (W.contents writer.inner) (W.contents result.writer.inner))) }
+    ensures read { IsErrOf result.outcome LiveFault.Read → IfSome (I.remaining reader)
+        (λ bytes. HasReadFront live.script.core.machine result.live.script.core.machine result.live.desks listed bytes (W.contents writer.inner) (W.contents result.writer.inner)) }
+    ensures stuck { IsErrOf result.outcome LiveFault.Stuck → IfSome (I.remaining reader)
+        (λ bytes. HasAnsweredFront live.script.core.machine result.live.script.core.machine result.live.desks bytes (W.contents writer.inner) (W.contents result.writer.inner)) }
 {
     thread::scope(
         thread::scope_env(),
@@ -236,6 +251,10 @@ fn run_with_ring<
                 (λ bytes. Wrote live.script.core.machine listed bytes outcome (W.contents writer.inner) (W.contents result.writer.inner))) }
             ensures begun { OnErr result.outcome (IfSome (I.remaining reader)
                 (λ bytes. HasBegun live.script.core.machine listed bytes (W.contents writer.inner) (W.contents result.writer.inner))) }
+            ensures read { IsErrOf result.outcome LiveFault.Read → IfSome (I.remaining reader)
+                (λ bytes. HasReadFront live.script.core.machine result.live.script.core.machine result.live.desks listed bytes (W.contents writer.inner) (W.contents result.writer.inner)) }
+            ensures stuck { IsErrOf result.outcome LiveFault.Stuck → IfSome (I.remaining reader)
+                (λ bytes. HasAnsweredFront live.script.core.machine result.live.script.core.machine result.live.desks bytes (W.contents writer.inner) (W.contents result.writer.inner)) }
         {
             run_beside(
                 scope, rt, hall, alloc, listed, live, reader, producer, consumer, writer, teller,
@@ -248,9 +267,9 @@ fn run_with_ring<
 /// Runs live in this thread on the bytes of a reader that another thread reads.
 ///
 /// A run that ends well has written what `IsLive` says of all bytes that the reader had; after a fault a beginning of
-/// such replies, to a front of them. Refusals: `Read`, a call of the reader failed; those of `run_live`; `Memory` also
-/// where the ring finds none, or no thread can be started, and then nothing was read. After a fault the call comes back
-/// once the reader does: at more input, or its end.
+/// such replies, to a front of them, and after `Read` and `Stuck` whole ones, as `run_live` says. Refusals: `Read`, a call
+/// of the reader failed; those of `run_live`; `Memory` also where the ring finds none, or no thread can be started, and
+/// then nothing was read. After a fault the call comes back once the reader does: at more input, or its end.
 pub fn relay_live<
     P: Threads + Wait + Clock + Sync,
     I: Read + Send + Drop,
@@ -272,6 +291,10 @@ pub fn relay_live<
         (λ bytes. Wrote live.script.core.machine listed bytes outcome (W.contents writer.inner) (W.contents result.writer.inner))) }
     ensures begun { OnErr result.outcome (IfSome (I.remaining reader)
         (λ bytes. HasBegun live.script.core.machine listed bytes (W.contents writer.inner) (W.contents result.writer.inner))) }
+    ensures read { IsErrOf result.outcome LiveFault.Read → IfSome (I.remaining reader)
+        (λ bytes. HasReadFront live.script.core.machine result.live.script.core.machine result.live.desks listed bytes (W.contents writer.inner) (W.contents result.writer.inner)) }
+    ensures stuck { IsErrOf result.outcome LiveFault.Stuck → IfSome (I.remaining reader)
+        (λ bytes. HasAnsweredFront live.script.core.machine result.live.script.core.machine result.live.desks bytes (W.contents writer.inner) (W.contents result.writer.inner)) }
 {
     match RingBuffer::new(alloc, RING_BYTES) {
         Ok((producer, consumer)) => {

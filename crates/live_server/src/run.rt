@@ -1,5 +1,5 @@
 //! A live run: lines in as they come, replies out as they are known, and the listing at the end.
-ghost use Rattle.std.specs.Prelude.{◌≡◌, ◌<◌, ◌∷◌, ◌++◌, ℕ, List, Option, [], length, true, false, OnOk, OnErr, IfOk, IfSome};
+ghost use Rattle.std.specs.Prelude.{◌≡◌, ◌<◌, ◌∷◌, ◌++◌, ℕ, List, Option, [], length, true, false, OnOk, OnErr, IfOk, IfSome, IsErrOf};
 ghost use Rattle.std.specs.Io.BufRead.{strip_last};
 ghost use Rattle.collation.specs.Bytes as byte;
 ghost use Rattle.command.specs.declared.request.Command.TheVariants.{Halt};
@@ -9,8 +9,9 @@ ghost use Rattle.listing.specs.Bytes.{WritesBeginning};
 ghost use Rattle.script_run.specs.Lines.{nonempty_line, has_no_end};
 ghost use Rattle.script_run.specs.OpenJobs.{is_open};
 ghost use Rattle.live_server.specs.Desks.{desk_of};
-ghost use Rattle.live_server.specs.Live.{Wrote, IsBegun};
-ghost use Rattle.live_server.specs.Runs.{Ran, Broke, Settled, Unsettled, RanFront, BrokeFront, RanEnd, BrokeEnd, IsNew, HasTaken, HasBrokenOff};
+ghost use Rattle.script_run.specs.Lines.{lines_of};
+ghost use Rattle.live_server.specs.Live.{Wrote, IsBegun, HasAnswered, HasRead};
+ghost use Rattle.live_server.specs.Runs.{Ran, Broke, Settled, Unsettled, RanFront, BrokeFront, RanEnd, BrokeEnd, IsNew, HasTaken, HasBrokenOff, HasStood, HasSettled};
 
 use crate::desks::{Desks, Waiting};
 use crate::live::{Live, do_first, take_line, try_again};
@@ -370,6 +371,8 @@ fn go_on<W: Write>(
 ) -> Result<(), LiveFault>
     ensures ran { OnOk result (Settled live.old live.new (W.contents writer.old.inner) (W.contents writer.new.inner)) }
     ensures err { OnErr result (Unsettled live.old (W.contents writer.old.inner) (W.contents writer.new.inner)) }
+    ensures stuck { IsErrOf result LiveFault.Stuck → HasSettled [] live.old live.new (W.contents writer.old.inner) (W.contents writer.new.inner) }
+    ensures unread { IsErrOf result LiveFault.Read → ⊥ }
 {
     if halt_idle(live) {
         return Ok(());
@@ -399,6 +402,8 @@ fn settle<W: Write>(
     ensures empty { OnOk result ((job : ℕ) → (desk_of live.new.desks job).lines ≡ []) }
     ensures ran { OnOk result (Settled live.old live.new (W.contents writer.old.inner) (W.contents writer.new.inner)) }
     ensures err { OnErr result (Unsettled live.old (W.contents writer.old.inner) (W.contents writer.new.inner)) }
+    ensures stuck { IsErrOf result LiveFault.Stuck → HasSettled [] live.old live.new (W.contents writer.old.inner) (W.contents writer.new.inner) }
+    ensures unread { IsErrOf result LiveFault.Read → ⊥ }
 {
     'rounds: for _ in 0..u64::MAX {
         if live.desks.are_empty() {
@@ -423,6 +428,8 @@ fn finish<W: Write>(
 ) -> Result<(), LiveFault>
     ensures ran { OnOk result (RanEnd listed (nonempty_line begun.now) live.old live.new (W.contents writer.old.inner) (W.contents writer.new.inner)) }
     ensures err { OnErr result (BrokeEnd listed (nonempty_line begun.now) live.old (W.contents writer.old.inner) (W.contents writer.new.inner)) }
+    ensures stuck { IsErrOf result LiveFault.Stuck → HasSettled (nonempty_line begun.now) live.old live.new (W.contents writer.old.inner) (W.contents writer.new.inner) }
+    ensures unread { IsErrOf result LiveFault.Read → ⊥ }
 {
     take_counted(alloc, live, begun, writer, bell, log)?;
     settle(alloc, live, writer, bell, log)?;
@@ -445,8 +452,12 @@ fn come<A: Arrivals, W: Write>(
 ) -> Result<bool, LiveFault>
     requires whole { has_no_end begun.old.items ≡ true }
     requires room { 0 < length buffer.old }
+    requires gathered { live.old.script.out.items ≡ [] }
     ensures ran { OnOk result (HasTaken (A.taken arrivals.old) (A.taken arrivals.new) begun.old.items begun.new.items live.old live.new (W.contents writer.old.inner) (W.contents writer.new.inner)) }
     ensures err { OnErr result (HasBrokenOff (A.taken arrivals.old) (A.taken arrivals.new) begun.old.items live.old (W.contents writer.old.inner) (W.contents writer.new.inner)) }
+    ensures empty { OnOk result (live.new.script.out.items ≡ []) }
+    ensures read { IsErrOf result LiveFault.Read → HasStood (A.taken arrivals.old) (A.taken arrivals.new) begun.old.items begun.new.items live.old live.new (W.contents writer.old.inner) (W.contents writer.new.inner) }
+    ensures stuck { IsErrOf result LiveFault.Stuck → ⊥ }
     ensures origin { A.origin arrivals.new ≡ A.origin arrivals.old }
 {
     if !arrivals.wait(standstill.next_time(live, bell)) {
@@ -478,11 +489,13 @@ fn run_pieces<A: Arrivals, W: Write>(
     requires none { A.taken arrivals.old ≡ [] }
     ensures output { OnOk result (Wrote live.old.script.core.machine listed (A.taken arrivals.new) live.new.script.outcome (W.contents writer.old.inner) (W.contents writer.new.inner)) }
     ensures begun { OnErr result (IsBegun live.old.script.core.machine listed (A.taken arrivals.new) (W.contents writer.old.inner) (W.contents writer.new.inner)) }
+    ensures read { IsErrOf result LiveFault.Read → HasRead live.old.script.core.machine live.new.script.core.machine live.new.desks (A.taken arrivals.new) (W.contents writer.old.inner) (W.contents writer.new.inner) }
+    ensures stuck { IsErrOf result LiveFault.Stuck → HasAnswered live.old.script.core.machine live.new.script.core.machine live.new.desks (lines_of (A.taken arrivals.new)) (W.contents writer.old.inner) (W.contents writer.new.inner) }
     ensures origin { A.origin arrivals.new ≡ A.origin arrivals.old }
 {
     let mut begun = Vec::new(alloc);
     let mut buffer = [0; TAKEN_BYTES];
-    let mut standstill = Standstill::new();
+    let mut standstill = Standstill::new(alloc);
     'pieces: for _ in 0..u64::MAX {
         let is_over = come(
             alloc,
@@ -505,6 +518,9 @@ fn run_pieces<A: Arrivals, W: Write>(
 
 /// Runs live: lines are done as they come, and each reply is written as soon as it is known and before more input is
 /// waited for.
+///
+/// After `Read` each whole line that came was answered or waits, the machine is as the acts leave it, and what was
+/// written is their whole replies; after `Stuck` so of all lines. After `Write` and `Memory` it is a beginning of replies.
 pub fn run_live<A: Arrivals, W: Write>(
     alloc: Global,
     listed: bool,
@@ -518,6 +534,8 @@ pub fn run_live<A: Arrivals, W: Write>(
     requires none { A.taken arrivals.old ≡ [] }
     ensures output { IfOk result (λ outcome. Wrote live.old.script.core.machine listed (A.taken arrivals.new) outcome (W.contents writer.old.inner) (W.contents writer.new.inner)) }
     ensures begun { OnErr result (IsBegun live.old.script.core.machine listed (A.taken arrivals.new) (W.contents writer.old.inner) (W.contents writer.new.inner)) }
+    ensures read { IsErrOf result LiveFault.Read → HasRead live.old.script.core.machine live.new.script.core.machine live.new.desks (A.taken arrivals.new) (W.contents writer.old.inner) (W.contents writer.new.inner) }
+    ensures stuck { IsErrOf result LiveFault.Stuck → HasAnswered live.old.script.core.machine live.new.script.core.machine live.new.desks (lines_of (A.taken arrivals.new)) (W.contents writer.old.inner) (W.contents writer.new.inner) }
     ensures origin { A.origin arrivals.new ≡ A.origin arrivals.old }
 {
     match run_pieces(alloc, listed, live, arrivals, writer, bell, log) {

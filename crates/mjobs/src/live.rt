@@ -15,7 +15,7 @@ use program_front::{
 };
 use refusal::Refusal;
 use script_run::RunLog;
-use std::alloc::AllocError;
+use std::alloc::{AllocError, Global};
 use std::io;
 use std::io::{Read, Write};
 use std::rt::{Clock, Files};
@@ -50,9 +50,44 @@ impl<'a, P: Eprint + AllocGlobal> RunLog for Told<'a, P> {
     fn ended(&mut self, _core: &JobCore, _is_whole: bool) {}
 }
 
+// Whether the byte is a control character, or begins one of two bytes: U+0000 to U+001F, U+007F to U+009F.
+fn is_control(byte: u8, next: Option<&u8>) -> bool {
+    match (byte, next) {
+        (0..=0x1f, _) => true,
+        (0x7f, _) => true,
+        (0xc2, Some(0x80..=0x9f)) => true,
+        _ => false,
+    }
+}
+
+// The text with `?` for each control character: a terminal would do what they say. It takes no more memory than the
+// text. Refusals: `AllocError`.
+fn without_controls(alloc: Global, text: &[u8]) -> Result<Vec<u8>, AllocError> {
+    let mut shown = Vec::with_capacity(alloc, text.len())?;
+    let mut at = 0;
+    'bytes: for _ in 0..text.len() {
+        let Some(byte) = text.get(at) else {
+            break;
+        };
+        let next = text.get(at.saturating_add(1));
+        if is_control(*byte, next) {
+            shown.push(b'?')?;
+            at = at.saturating_add(if *byte == 0xc2 { 2 } else { 1 });
+        } else {
+            shown.push(*byte)?;
+            at = at.saturating_add(1);
+        }
+    }
+    Ok(shown)
+}
+
 impl<'a, P: Eprint + AllocGlobal> Teller for Told<'a, P> {
     fn tell_waits(&self, job: Job, line: &[u8], holder: Option<Job>) {
-        let text = str::from_utf8(line).unwrap_or("LOCK");
+        let shown = without_controls(self.rt.alloc(), line);
+        let text = match &shown {
+            Ok(shown) => str::from_utf8(shown).unwrap_or("LOCK"),
+            Err(AllocError) => "LOCK",
+        };
         let _ = match holder {
             Some(holder) => {
                 eprintln!(self.rt;

@@ -32,3 +32,6 @@ pub returns-then-count-eq0-clause-ran : goal.returns-then-count-eq0-clause-ran
 returns-then-count-eq0-clause-ran g c =
     let none : c.in_ok-count.count ≡ 0 = grind (arith, nat_tests, c.if-count-eq0.true) in
     none_taken _ _ _ _ _ _ _ c.requires.whole (none_came _ _ _ _ _ c.in_ok-count.ensures.bytes none c.wait.ensures.taken) (Ran-none _ _ _ refl refl refl refl refl)
+
+pub returns-in_err-count-clause-read : goal.returns-in_err-count-clause-read
+returns-in_err-count-clause-read g c = λ _. record { taken = c.in_err-count.ensures.err ∙ c.wait.ensures.taken; kept = refl; live = refl; text = refl }

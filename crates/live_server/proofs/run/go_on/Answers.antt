@@ -15,3 +15,9 @@ returns-in-Some-clause-ran g c = Settled-then [] _ _ _ _ _ _ (c.halt_idle.ensure
 
 pub returns-in-None-clause-err : goal.returns-in-None-clause-err
 returns-in-None-clause-err g c = Unsettled-then [] _ _ _ _ _ (c.halt_idle.ensures _) (Broke-so-far [] _ _ _ (Broke-writing _ _ _ (WritesBeginning-all _ _ _ c.in_ok-write_gathered.ensures.ok)))
+
+pub returns-in-None-clause-stuck : goal.returns-in-None-clause-stuck
+returns-in-None-clause-stuck g c = λ _. record {
+  ran = Settled-then [] _ _ _ _ _ _ (c.halt_idle.ensures _) (Ran-so-far [] _ _ _ _ (Ran-written _ _ _ _ c.in_ok-write_gathered.ensures.ok c.in_ok-write_gathered.ensures.empty refl refl refl refl));
+  empty = c.in_ok-write_gathered.ensures.empty;
+}

@@ -2,6 +2,7 @@ use Rattle.std.proofs.Common.{[], refl}
 use Rattle.listing.specs.laws.Bytes.{on_err}
 use Rattle.live_server.proofs.Steps.{nothing_begun, Ran-none, Ran-so-far, Broke-so-far, Settled-then, Unsettled-then}
 use Rattle.live_server.proofs.Ends.{Broke-writing, Ran-written}
+use Rattle.live_server.proofs.Answered.{passed_on}
 use Rattle.live_server.proofs.run.settle.Goals as goal
 
 pub rounds-init : goal.rounds-init
@@ -27,3 +28,8 @@ returns-in_err-try_all-clause-err g c = on_err _ _ (Unsettled-then [] _ _ _ _ _ 
 
 pub returns-clause-err : goal.returns-clause-err
 returns-clause-err g c = Unsettled-then [] _ _ _ _ _ c.rounds.invariant (Broke-so-far [] _ _ _ (Broke-writing _ _ _ (nothing_begun _ _)))
+
+pub returns-in_err-go_on-clause-stuck : goal.returns-in_err-go_on-clause-stuck
+returns-in_err-go_on-clause-stuck g c = λ k.
+    let s = c.in_err-go_on.ensures.stuck (passed_on _ _ _ c.from_residual-in_err-go_on.ensures.1 k) in
+    record { ran = Settled-then [] _ _ _ _ _ _ c.rounds.invariant s.ran; empty = s.empty }
