@@ -81,23 +81,27 @@ fn without_controls(alloc: Global, text: &[u8]) -> Result<Vec<u8>, AllocError> {
     Ok(shown)
 }
 
+// Prints for whom the job waits, and in which line.
+fn print_wait(rt: &(impl Eprint + AllocGlobal), job: Job, line: &[u8], holder: Option<Job>) {
+    let text = str::from_utf8(line).unwrap_or("LOCK");
+    let _ = match holder {
+        Some(holder) => {
+            eprintln!(rt;
+                "{PROGRAM}: job {} waits for job {}: {text}",
+                job.number(),
+                holder.number()
+            )
+        }
+        None => eprintln!(rt; "{PROGRAM}: job {} waits for others: {text}", job.number()),
+    };
+}
+
 impl<'a, P: Eprint + AllocGlobal> Teller for Told<'a, P> {
     fn tell_waits(&self, job: Job, line: &[u8], holder: Option<Job>) {
-        let shown = without_controls(self.rt.alloc(), line);
-        let text = match &shown {
-            Ok(shown) => str::from_utf8(shown).unwrap_or("LOCK"),
-            Err(AllocError) => "LOCK",
-        };
-        let _ = match holder {
-            Some(holder) => {
-                eprintln!(self.rt;
-                    "{PROGRAM}: job {} waits for job {}: {text}",
-                    job.number(),
-                    holder.number()
-                )
-            }
-            None => eprintln!(self.rt; "{PROGRAM}: job {} waits for others: {text}", job.number()),
-        };
+        match without_controls(self.rt.alloc(), line) {
+            Ok(shown) => print_wait(self.rt, job, &shown, holder),
+            Err(AllocError) => print_wait(self.rt, job, b"LOCK", holder),
+        }
     }
 
     fn tell_standstill(&self) {
