@@ -597,9 +597,9 @@ static inline vg_outcome vg_next_name(vg_engine *engine, uint64_t job, const cha
 }
 
 /* $QUERY: moves a key to the nearest node with a value in its name, from VG_AT_KEY, or from VG_BELOW_KEY, which
- * backward is after all under the key. VG_AT_END where no node is left, VG_REPLY_KEPT where memory is refused for a
- * long key: after these, as after a refusal, the key is as it was. vg_reply copies the reference as the reply of a
- * line. */
+ * backward is after all under the key. VG_TOO_MANY_SUBSCRIPTS from VG_BELOW_KEY where the key has 31 subscripts, as for
+ * vg_order; VG_AT_END where no node is left, VG_REPLY_KEPT where memory is refused for a long key: after these, as after
+ * any refusal, the key is as it was. vg_reply copies the reference as the reply of a line. */
 static inline vg_outcome vg_query(vg_engine *engine, uint64_t job, vg_key *key, uint32_t from, uint32_t direction) {
     if (!engine)
         return VG_NO_ENGINE;
@@ -750,8 +750,8 @@ static inline vg_outcome vg_look_order(vg_engine *engine, vg_key *key, const cha
                          subscript_length);
 }
 
-/* As vg_query, without a command of a job: VG_OUT_OF_MEMORY where memory is refused for a long key. vg_key_bytes copies
- * what was found. */
+/* As vg_query, with its VG_TOO_MANY_SUBSCRIPTS, without a command of a job: VG_OUT_OF_MEMORY where memory is refused for
+ * a long key. vg_key_bytes copies what was found. */
 static inline vg_outcome vg_look_query(vg_engine *engine, vg_key *key, uint32_t from, uint32_t direction) {
     return vg_view_query(engine, VG_NOW, key, from, direction);
 }

@@ -514,7 +514,7 @@ static inline vg_outcome vgt_order(vgt_session *session, vg_key *key, const char
     return outcome;
 }
 
-/* As vg_query. */
+/* As vg_query, with its VG_TOO_MANY_SUBSCRIPTS. */
 static inline vg_outcome vgt_query(vgt_session *session, vg_key *key, uint32_t from, uint32_t direction) {
     vg_outcome outcome;
     VGT_DATA(session, outcome, vorgushan_s_query(&session->own, key, from, direction));

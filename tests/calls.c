@@ -278,6 +278,10 @@ static void use_keys(vg_engine *engine) {
     CHECK(vg_key_spell(&key, VG_TEXT("Deep"), ones, 40) == VG_TOO_MANY_SUBSCRIPTS);
     CHECK(has_value(engine, &key, "bottom"));
     CHECK(vg_key_subscript(&key, VG_TEXT("1")) == VG_TOO_MANY_SUBSCRIPTS);
+    CHECK(vg_query(engine, 1, &key, VG_BELOW_KEY, VG_BACKWARD) == VG_TOO_MANY_SUBSCRIPTS);
+    CHECK(vg_query(engine, 1, &key, VG_BELOW_KEY, VG_FORWARD) == VG_TOO_MANY_SUBSCRIPTS);
+    CHECK(vg_look_query(engine, &key, VG_BELOW_KEY, VG_BACKWARD) == VG_TOO_MANY_SUBSCRIPTS);
+    CHECK(vg_query(engine, 1, &key, VG_AT_KEY, VG_FORWARD) == VG_AT_END && has_value(engine, &key, "bottom"));
     CHECK(vg_key_name(&other, VG_TEXT("Deep")) == VG_DONE);
     for (i = 0; i < 31; i++)
         CHECK(vg_key_subscript(&other, VG_TEXT("1")) == VG_DONE);

@@ -335,6 +335,22 @@ static void use_walks(void) {
     vg_key_end(&at);
 }
 
+/* No empty subscript follows a key of 31. */
+static void use_deepest(void) {
+    vg_key at = VG_KEY_NONE;
+    vg_text ones[31];
+    int i;
+    for (i = 0; i < 31; i++) {
+        ones[i].bytes = "1";
+        ones[i].length = 1;
+    }
+    CHECK(vg_key_spell(&at, VG_TEXT("A"), ones, 31) == VG_DONE);
+    CHECK(vgt_query(&one, &at, VG_BELOW_KEY, VG_BACKWARD) == VG_TOO_MANY_SUBSCRIPTS);
+    CHECK(vgt_look_query(&one, VG_PRESENT, &at, VG_BELOW_KEY, VG_BACKWARD) == VG_TOO_MANY_SUBSCRIPTS);
+    CHECK(vgt_query(&one, &at, VG_AT_KEY, VG_BACKWARD) == VG_DONE);
+    vg_key_end(&at);
+}
+
 /* ---- Transactions ---- */
 
 static void use_transactions(void) {
@@ -929,6 +945,7 @@ int main(void) {
     begin_without_memory();
     use_data();
     use_walks();
+    use_deepest();
     use_transactions();
     use_blocks();
     use_looks();

@@ -246,6 +246,8 @@ impl<'a> Job<'a> {
     }
 
     /// $QUERY: the nearest node with a value in the key's name; none where no node is left.
+    ///
+    /// [`TooManySubscripts`](Error::TooManySubscripts) from below a key with 31.
     pub fn query(&self, key: &Key, start: Start, direction: Direction) -> Result<Option<Key>, Error> {
         let moved = key.try_clone()?;
         let is_open = u32::from(start == Start::BelowKey);

@@ -1,13 +1,13 @@
 //! Typed calls on keys: docs/RULES.md, the table of commands.
 use crate::copies::{holds, is_at, is_read, put};
-use crate::keys::child;
+use crate::keys::{child, deepest};
 use collation::Direction;
 use embedded::{Embedded, Outcome};
 use key_codec::Key;
 use refusal::Refusal;
 use std::alloc::Global;
 use std::test::*;
-use typed_calls::{copy_value, data, get, key_of_name, kill, merge, order, query, set};
+use typed_calls::{copy_value, data, get, key_of_name, kill, look_query, merge, order, query, set};
 
 // A value with a byte 0 is set, read and killed.
 fn set_and_killed(alloc: Global, engine: &mut Embedded) -> Result<bool, Refusal> {
@@ -185,6 +185,25 @@ fn query_walks_all_nodes(rt: HostRuntime) -> Result<(), Fail> {
     let went = are_found(rt.alloc(), &mut engine);
     drop(engine);
     assert_eq!(rt; (are_set, went), (Ok(true), Ok(true)));
+    Ok(())
+}
+
+// Whether a key of 31 subscripts stays, which no empty one may follow.
+fn stays(alloc: Global, engine: &mut Embedded) -> Result<bool, Refusal> {
+    let mut key = deepest(alloc)?;
+    let refused = Outcome::Refused(Refusal::TooManySubscripts);
+    let asked = query(engine, 1, &mut key, true, Direction::Backward);
+    let looked = look_query(engine, 0, &mut key, true, Direction::Backward);
+    let at_it = query(engine, 1, &mut key, false, Direction::Backward);
+    Ok(asked == refused && looked == refused && at_it == Outcome::AtEnd)
+}
+
+#[test]
+fn no_query_starts_below_31_subscripts(rt: HostRuntime) -> Result<(), Fail> {
+    let mut engine = Embedded::new(rt.alloc());
+    let went = stays(rt.alloc(), &mut engine);
+    drop(engine);
+    assert_eq!(rt; went, Ok(true));
     Ok(())
 }
 

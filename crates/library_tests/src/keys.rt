@@ -84,8 +84,13 @@ fn a_key_that_is_spelled_is_refused(rt: HostRuntime) -> Result<(), Fail> {
     Ok(())
 }
 
+/// A key with as many subscripts as there may be.
+pub fn deepest(alloc: Global) -> Result<Key, Refusal> {
+    spelled(alloc, b"A", &[ONE; 31])
+}
+
 fn below_31(alloc: Global) -> Result<Key, Refusal> {
-    let key = spelled(alloc, b"A", &[ONE; 31])?;
+    let key = deepest(alloc)?;
     key_below(alloc, &key, b"1")
 }
 

@@ -1,6 +1,6 @@
 //! Calls of sessions that share a database, here from one thread: docs/LIBRARY.md, "Memory and threads".
 use crate::copies::holds;
-use crate::keys::child;
+use crate::keys::{child, deepest};
 use collation::Direction;
 use command::{Command, Extent};
 use embedded::Outcome;
@@ -192,6 +192,27 @@ fn one_node_alone(alloc: Global) -> Option<bool> {
 #[test]
 fn a_session_finds_one_node(rt: HostRuntime) -> Result<(), Fail> {
     assert_eq!(rt; one_node_alone(rt.alloc()), Some(true));
+    Ok(())
+}
+
+// Whether a key of 31 subscripts stays, which no empty one may follow.
+fn stays(alloc: Global, seat: &mut Seat) -> Result<bool, Refusal> {
+    let mut key = deepest(alloc)?;
+    let refused = Ok(Outcome::Refused(Refusal::TooManySubscripts));
+    let asked = query(seat, &mut key, true, Direction::Backward);
+    let looked = look_query(seat, false, &mut key, true, Direction::Backward);
+    let at_it = query(seat, &mut key, false, Direction::Backward);
+    Ok(asked == refused && looked == refused && at_it == Ok(Outcome::AtEnd))
+}
+
+fn stays_alone(alloc: Global) -> Option<bool> {
+    let mut seat = alone(alloc)?;
+    stays(alloc, &mut seat).ok()
+}
+
+#[test]
+fn no_query_of_a_session_starts_below_31_subscripts(rt: HostRuntime) -> Result<(), Fail> {
+    assert_eq!(rt; stays_alone(rt.alloc()), Some(true));
     Ok(())
 }
 

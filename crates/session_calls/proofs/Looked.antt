@@ -9,6 +9,7 @@ use Rattle.embedded.specs.declared.outcome.Outcome.{Outcome}
 use Rattle.hub.specs.declared.hub.Busy.{Busy}
 use Rattle.key_codec.specs.Draft.{longer, place_of}
 use Rattle.shared_engine.specs.Named.{SessionAt}
+use Rattle.typed_calls.specs.Typed.{IsPlaceCause, IsQueryCause, IsWithin}
 use Rattle.session_calls.specs.Looks.{IsLook, IsOrderLook, IsQueryLook, IsSeen}
 use Rattle.session_calls.specs.declared.seat.Seat.{Seat}
 
@@ -36,11 +37,11 @@ looked at_start Does Left before after found shown outcome is seen done =
 
 -- the same of a place
 pub order_looked : (at_start : Bool) (level : Reference) (start : List ℕ) (direction : Direction) (old new : List ℕ) (wanted : ℕ) (before after : Seat) (result : Result Outcome Busy) (place : Spot) → place ≡ place_of (longer level start)
-    → IsLook at_start (λ m outcome. IsOrder place direction m outcome old new wanted) ((new ≡ old) × (wanted ≡ 0)) before after result → IsOrderLook at_start level start direction old new wanted before after result
-order_looked at_start level start direction old new wanted before after result place is h =
-    inl (subst (λ (p : Spot). IsLook at_start (λ m outcome. IsOrder p direction m outcome old new wanted) ((new ≡ old) × (wanted ≡ 0)) before after result) is h)
+    → IsWithin (λ refusal. IsPlaceCause level start refusal) → IsLook at_start (λ m outcome. IsOrder place direction m outcome old new wanted) ((new ≡ old) × (wanted ≡ 0)) before after result → IsOrderLook at_start level start direction old new wanted before after result
+order_looked at_start level start direction old new wanted before after result place is within h =
+    inl (subst (λ (p : Spot). IsLook at_start (λ m outcome. IsOrder p direction m outcome old new wanted) ((new ≡ old) × (wanted ≡ 0)) before after result) is h, within)
 
 pub query_looked : (at_start : Bool) (old new : Reference) (is_open : Bool) (direction : Direction) (before after : Seat) (result : Result Outcome Busy) (place : Spot) → place ≡ record { reference = old; is_open = is_open }
-    → IsLook at_start (λ m outcome. IsQuery place direction m old new outcome) (new ≡ old) before after result → IsQueryLook at_start old is_open direction new before after result
-query_looked at_start old new is_open direction before after result place is h =
-    inl (subst (λ (p : Spot). IsLook at_start (λ m outcome. IsQuery p direction m old new outcome) (new ≡ old) before after result) is h)
+    → IsWithin (λ refusal. IsQueryCause old is_open refusal) → IsLook at_start (λ m outcome. IsQuery place direction m old new outcome) (new ≡ old) before after result → IsQueryLook at_start old is_open direction new before after result
+query_looked at_start old new is_open direction before after result place is within h =
+    inl (subst (λ (p : Spot). IsLook at_start (λ m outcome. IsQuery p direction m old new outcome) (new ≡ old) before after result) is h, within)

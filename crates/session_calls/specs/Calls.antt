@@ -14,6 +14,7 @@ use Rattle.hub.specs.declared.hub.Busy.{Busy}
 use Rattle.shared_engine.specs.Named.{SessionAt}
 use Rattle.shared_engine.specs.Sessions.{Held, held}
 use Rattle.shared_engine.specs.Blocks.{WasTried}
+use Rattle.typed_calls.specs.Typed.{IsWithin}
 use Rattle.session_calls.specs.Steps.{HasStepped}
 use Rattle.session_calls.specs.declared.seat.Seat.{Seat}
 
@@ -59,11 +60,11 @@ IsStepOrNone command before after (Ok true) = IsStep command before after
 IsStepOrNone command before after (Ok false) = (before.session ≡ None) × (after ≡ before)
 IsStepOrNone command before after (Err busy) = after ≡ before
 
--- the command was done, and this is told of its reply; or it was refused before, or there is no session, or others are at
+-- the command was done within its limits, and this is told of its reply; or it was refused before, or there is no session, or others are at
 -- what all share: then nothing has changed, and this is left
 abbrev pub IsCall : (Refusal → Type 0) → Command → (Option Answered → Outcome → Type 0) → Type 0 → Seat → Seat → Result Outcome Busy → Type 0
 IsCall IsCause command Tells Left before after (Ok outcome) =
-    (IsStep command before after × Tells after.last outcome) ⊎ ((IsRefusedBefore IsCause before after outcome ⊎ HasNone before after outcome) × Left)
+    (IsStep command before after × Tells after.last outcome × IsWithin IsCause) ⊎ ((IsRefusedBefore IsCause before after outcome ⊎ HasNone before after outcome) × Left)
 IsCall IsCause command Tells Left before after (Err busy) = (after ≡ before) × Left
 
 -- one more try of a LOCK: it has its names; or it hasn't, and nothing was done; or it was refused

@@ -1,8 +1,8 @@
 //! Calls of a session on keys.
-ghost use Rattle.std.specs.Prelude.{◌≡◌, ⊤, IfErr, IfOk};
+ghost use Rattle.std.specs.Prelude.{◌≡◌, ⊤, IfErr, IfOk, OnOk};
 ghost use Rattle.command.specs.declared.request.Command.{Command};
 ghost use Rattle.typed_calls.specs.Commands.{data_command as data_of, get_command as get_of, increment_command as increment_of, merge_command as merge_of, name_command as name_of, order_command as order_of, query_command as query_of, set_command as set_of};
-ghost use Rattle.typed_calls.specs.Typed.{IsFoundTaken, IsMemory, IsNameCause, IsNameCopied, IsNumberCause, IsPlaceCause, IsValueCause, IsValueCopied, last_number as number_in, last_outcome as outcome_in};
+ghost use Rattle.typed_calls.specs.Typed.{IsFoundTaken, IsMemory, IsNameCause, IsNameCopied, IsNumberCause, IsPlaceCause, IsQueryCause, IsValueCause, IsValueCopied, IsWithin, last_number as number_in, last_outcome as outcome_in};
 ghost use Rattle.session_calls.specs.Calls.{IsCall, IsNoCause, IsStepOrNone};
 
 use crate::seat::Seat;
@@ -77,6 +77,7 @@ pub fn run_numbered(seat: &mut Seat, command: Command, number: &mut u64) -> Resu
 // SET of a copy of these bytes.
 fn set_command(alloc: Global, key: &Key, value: &[u8]) -> Result<Command, Refusal>
     ensures ok { IfOk result (λ command. command ≡ set_of key.now value.now) }
+    ensures within { OnOk result (IsWithin (λ refusal. IsValueCause value.now refusal)) }
     ensures err { IfErr result (λ refusal. IsValueCause value.now refusal) }
 {
     if value.len() > LONGEST_VALUE {
@@ -241,15 +242,16 @@ fn run_found(seat: &mut Seat, command: Command, key: &mut Key) -> Result<Outcome
 /// Moves the key to the nearest node with a value, in the same name. Where `is_open`, an empty subscript follows the
 /// key: backward that is behind all under it, forward it makes no difference.
 ///
-/// Outcomes: those of `run`; before the step `OutOfMemory`; `AtEnd` where no node is left; `ReplyKept` where memory is
-/// refused for a key of over 38 bytes: the step is done. After all of these the key is as it was.
+/// Outcomes: those of `run`; before the step `TooManySubscripts` where an empty subscript would follow a key with 31, and
+/// `OutOfMemory`; `AtEnd` where no node is left; `ReplyKept` where memory is refused for a key of over 38 bytes: the step
+/// is done. After all of these the key is as it was.
 pub fn query(
     seat: &mut Seat,
     key: &mut Key,
     is_open: bool,
     direction: Direction,
 ) -> Result<Outcome, Busy>
-    ensures { IsCall IsMemory (query_of key.old is_open direction) (λ last outcome. IsFoundTaken last key.old key.new outcome) (key.new ≡ key.old) seat.old seat.new result }
+    ensures { IsCall (IsQueryCause key.old is_open) (query_of key.old is_open direction) (λ last outcome. IsFoundTaken last key.old key.new outcome) (key.new ≡ key.old) seat.old seat.new result }
 {
     match query_command(key, is_open, direction) {
         Ok(command) => run_found(seat, command, key),

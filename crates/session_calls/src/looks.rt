@@ -240,7 +240,8 @@ fn look_found(
 
 /// Moves the key to the nearest node with a value at the moment, in the same name, as `query` does.
 ///
-/// Outcomes: as of `embedded::move_to_found`; `NoTransaction`, `NoEngine`, `Busy` as of `look`. Then the key is as it was.
+/// Outcomes: as of `embedded::move_to_found`; before the look those of `query`; `NoTransaction`, `NoEngine`, `Busy` as of
+/// `look`. Then the key is as it was.
 pub fn look_query(
     seat: &mut Seat,
     at_start: bool,
@@ -252,7 +253,7 @@ pub fn look_query(
 {
     match place_at(key, is_open) {
         Ok(place) => look_found(seat, at_start, &place, direction, key),
-        Err(_) => Ok(Outcome::Refused(Refusal::OutOfMemory)),
+        Err(refusal) => Ok(Outcome::Refused(refusal)),
     }
 }
 

@@ -1,5 +1,5 @@
 -- The fault of a reference, and of a place, with one subscript more.
-use Rattle.std.proofs.Common.{◌≡◌, ℕ, ◌+◌, ◌-◌, ◌^◌, ◌≤◌, min, Bool, true, false, List, [], ◌∷◌, ◌++◌, length, length-append, sym, ap, ◌∙◌, refl, arith}
+use Rattle.std.proofs.Common.{◌≡◌, ℕ, ◌+◌, ◌-◌, ◌^◌, ◌≤◌, ◌<◌, min, Bool, true, false, List, [], ◌∷◌, ◌++◌, length, length-append, sym, ap, ◌∙◌, refl, arith}
 use Rattle.std.proofs.Math.Nat.{min-eq_left}
 use Rattle.std.proofs.lemmas.Bool.Decides.{nat_tests}
 use Rattle.std.specs.Option.{option_or}
@@ -15,6 +15,8 @@ use Rattle.key_codec.specs.Key.{IsFaultless}
 use Rattle.key_codec.specs.laws.Draft.{closed_part-more, closed_part-whole, ends_open-more, fault-more}
 use Rattle.key_codec.specs.laws.Key.{not_over, not_too_many}
 use Rattle.typed_calls.specs.Commands.{below_fault}
+use Rattle.typed_calls.specs.Typed.{IsPlaceCause, IsWithin}
+use Rattle.typed_calls.proofs.Within.{within_due}
 
 -- a faultless reference has so few subscripts that their count is exact
 depth_is : (ss : List (List ℕ)) (depth : ℕ) → reference_fault ss ≡ None → depth ≡ min (length ss) (2 ^ 64 - 1) → depth ≡ length ss
@@ -50,6 +52,10 @@ open_place r =
     ap (λ (ss : List (List ℕ)). record { reference = record { name = r.name; subscripts = ss }; is_open = ends_open (r.subscripts ++ [] ∷ []) }) (closed_part-more r.subscripts [])
     ∙ ap (λ (b : Bool). record { reference = r; is_open = b }) (ends_open-more r.subscripts [])
 
+pub empty : (s : List ℕ) → (length s == 0) ≡ true → s ≡ []
+empty [] e = refl
+empty (b ∷ bs) e = absurd (let none : length (b ∷ bs) ≡ 0 = grind (arith, nat_tests, e) in omega (arith, none))
+
 -- any other is the last of a closed one
 pub closed_place : (r : Reference) (s : List ℕ) → (length s == 0) ≡ false → place_of (longer r s) ≡ record { reference = longer r s; is_open = false }
 closed_place r s e =
@@ -72,3 +78,17 @@ open_due r depth form is deep =
     ap (λ (b : Bool). cond b (place_fault (r.subscripts ++ [] ∷ [])) (Some BadName)) form.name
     ∙ ap (λ (b : Bool). cond b (Some TooManySubscripts) (reference_fault (closed_part (r.subscripts ++ [] ∷ []))))
     (ap (nat_lt most_subscripts) (length-append r.subscripts ([] ∷ []) ∙ ap (λ (n : ℕ). n + 1) (sym same)) ∙ deep)
+
+-- one that wouldn't be is within its limits
+pub open_within : (r : Reference) (depth : ℕ) → IsFaultless r → depth ≡ min (length r.subscripts) (2 ^ 64 - 1) → depth < most_subscripts → IsWithin (λ refusal. IsPlaceCause r [] refusal)
+open_within r depth form is low =
+    let few : nat_lt most_subscripts (depth + 1) ≡ false = grind (arith, nat_tests, low) in
+    let same : depth ≡ length r.subscripts = depth_is r.subscripts depth form.subscripts is in
+    within_due (place_due (longer r []))
+    (ap (λ (b : Bool). cond b (place_fault (r.subscripts ++ [] ∷ [])) (Some BadName)) form.name
+    ∙ ap (λ (b : Bool). cond b (Some TooManySubscripts) (reference_fault (closed_part (r.subscripts ++ [] ∷ []))))
+    (ap (nat_lt most_subscripts) (length-append r.subscripts ([] ∷ []) ∙ ap (λ (n : ℕ). n + 1) (sym same)) ∙ few)
+    ∙ ap reference_fault (closed_part-more r.subscripts []) ∙ form.subscripts)
+
+pub closed_within : (r : Reference) (s : List ℕ) → (length s == 0) ≡ false → reference_due (longer r s) ≡ None → IsWithin (λ refusal. IsPlaceCause r s refusal)
+closed_within r s e none = within_due (place_due (longer r s)) (closed_due r s e ∙ none)

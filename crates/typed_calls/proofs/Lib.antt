@@ -1,3 +1,4 @@
+pub mod Within
 pub mod Below
 pub mod InTurn
 pub mod Asked

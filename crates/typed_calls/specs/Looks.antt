@@ -1,7 +1,7 @@
 -- What looks by keys at the database of a moment answer, and how a view begins.
 -- Read IsViewBegun, then IsOrderLook, IsQueryLook, IsChildrenLook, IsNumberLook.
 use Rattle.std.specs.Prelude.{◌≡◌, ◌⊎◌, ℕ, Bool, true, false, is_some, List}
-use Rattle.refusal.specs.declared.Refusal.TheVariants.{OutOfMemory}
+use Rattle.refusal.specs.declared.Refusal.{Refusal}
 use Rattle.collation.specs.Reference.{Reference}
 use Rattle.collation.specs.declared.direction.Direction.{Direction}
 use Rattle.command.specs.declared.request.Command.{Command}
@@ -17,7 +17,7 @@ use Rattle.embedded.specs.declared.engine.Embedded.{Embedded}
 use Rattle.embedded.specs.declared.outcome.Outcome.{Outcome}
 use Rattle.embedded.specs.declared.outcome.Outcome.TheVariants.{Refused, TransactionOpen}
 use Rattle.serial.specs.Machine.{IsReply}
-use Rattle.typed_calls.specs.Typed.{IsJobCause, IsPlaceCause, IsRefusedCall, IsStep, last_outcome, number_of}
+use Rattle.typed_calls.specs.Typed.{IsJobCause, IsPlaceCause, IsQueryCause, IsRefusedCall, IsStep, IsWithin, last_outcome, number_of}
 
 -- a TSTART of the job, which has no open transaction
 pub record IsAloneStarted (job : ℕ) (before after : Embedded) (outcome : Outcome) : Type 0 where
@@ -37,20 +37,24 @@ IsViewBegun job before after outcome =
     (IsAloneStarted job before after outcome ⊎ IsThere job before after outcome)
     ⊎ IsRefusedCall (λ refusal. IsJobCause job refusal) before after outcome
 
--- what $ORDER answers from this subscript on, one level below a key, was copied at a moment; or the subscript was refused
+-- what $ORDER answers from this subscript on, one level below a key, which may stand there, was copied at a moment; or the
+-- subscript was refused
 abbrev pub IsOrderLook : ℕ → Machine → Reference → List ℕ → Direction → Outcome → List ℕ → List ℕ → ℕ → Type 0
 IsOrderLook moment s level start direction result old new wanted =
-    IsOrderAt moment s (place_of (longer level start)) direction result old new wanted ⊎ IsLeftFor (λ refusal. IsPlaceCause level start refusal) result old new wanted
+    (IsOrderAt moment s (place_of (longer level start)) direction result old new wanted × IsWithin (λ refusal. IsPlaceCause level start refusal))
+    ⊎ IsLeftFor (λ refusal. IsPlaceCause level start refusal) result old new wanted
 
--- the key moved to what $QUERY answers from it, or from the open place below it, at a moment; or memory was refused, and it stays
+-- the key moved to what $QUERY answers from it, or from the open place that may stand below it, at a moment; or that was
+-- refused, and it stays
 abbrev pub IsQueryLook : ℕ → Machine → Reference → Bool → Direction → Reference → Outcome → Type 0
 IsQueryLook moment s old is_open direction new result =
-    IsQueryAt moment s (record { reference = old; is_open = is_open }) direction old new result ⊎ ((new ≡ old) × (result ≡ Refused OutOfMemory))
+    (IsQueryAt moment s (record { reference = old; is_open = is_open }) direction old new result × IsWithin (λ refusal. IsQueryCause old is_open refusal))
+    ⊎ ((new ≡ old) × ((refusal : Refusal) × IsQueryCause old is_open refusal × (result ≡ Refused refusal)))
 
 -- the children of a key behind this subscript were copied, in the database of a moment; or the subscript was refused, and nothing has changed
 abbrev pub IsChildrenLook : ℕ → Reference → List ℕ → Embedded → Embedded → Outcome → List ℕ → List ℕ → ℕ → Type 0
 IsChildrenLook moment level start before after result old new wanted =
-    IsChildrenCall moment (place_of (longer level start)) before after result old new wanted
+    (IsChildrenCall moment (place_of (longer level start)) before after result old new wanted × IsWithin (λ refusal. IsPlaceCause level start refusal))
     ⊎ (IsKept before after × IsLeftFor (λ refusal. IsPlaceCause level start refusal) result old new wanted)
 
 -- the reply to a command that changes nothing was told, and is not kept

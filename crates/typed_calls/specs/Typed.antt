@@ -1,6 +1,6 @@
 -- What the typed calls answer and leave.
--- Read IsTypedCall, then IsNumberCall, IsValueCall, IsFoundCall, IsNameCall.
-use Rattle.std.specs.Prelude.{◌≡◌, ◌⊎◌, ℕ, ◌≤◌, ◌<◌, true, false, List, [], length, Option, None, Some}
+-- Read IsWithin, IsTypedCall, then IsNumberCall, IsValueCall, IsFoundCall, IsNameCall.
+use Rattle.std.specs.Prelude.{◌≡◌, ◌⊎◌, ℕ, ◌≤◌, ◌<◌, Bool, true, false, List, [], length, Option, None, Some}
 use Rattle.std.specs.Option.{MatchOption}
 use Rattle.refusal.specs.declared.Refusal.{Refusal}
 use Rattle.refusal.specs.declared.Refusal.TheVariants.{BadLine, BadName, BadJob, ValueTooLong, OutOfMemory}
@@ -42,6 +42,10 @@ pub record IsRefusedCall (IsCause : Refusal → Type 0) (before after : Embedded
   pub kept : IsKept before after
   pub answered : outcome ≡ Refused refusal
 
+-- none of these causes is there but that of memory: so what is done keeps all limits that they name
+pub record IsWithin (IsCause : Refusal → Type 0) : Type 0 where
+  pub limits : (refusal : Refusal) → IsCause refusal → refusal ≡ OutOfMemory
+
 -- no job has this number
 abbrev pub IsJobCause : ℕ → Refusal → Type 0
 IsJobCause job refusal = (1 ≤ job → job ≤ most_jobs → ⊥) × (refusal ≡ BadJob)
@@ -74,6 +78,11 @@ IsNoList refusal = refusal ≡ BadLine
 abbrev pub IsPlaceCause : Reference → List ℕ → Refusal → Type 0
 IsPlaceCause level s refusal = IsDueOrMemory refusal (place_due (longer level s))
 
+-- memory was refused; or, where an empty subscript follows the key, it may not stand there
+abbrev pub IsQueryCause : Reference → Bool → Refusal → Type 0
+IsQueryCause r true refusal = IsPlaceCause r [] refusal
+IsQueryCause r false refusal = IsMemory refusal
+
 -- ---- calls that answer nothing but how they went
 
 -- what the last reply tells
@@ -81,10 +90,10 @@ abbrev pub last_outcome : Option Answered → Outcome
 last_outcome None = NoReply
 last_outcome (Some last) = outcome_of last.reply
 
--- the step was done and its outcome is told, or it was refused before
+-- the step was done within its limits and its outcome is told, or it was refused before
 abbrev pub IsTypedCall : (Refusal → Type 0) → ℕ → Command → Embedded → Embedded → Outcome → Type 0
 IsTypedCall IsCause job command before after outcome =
-    (IsStep job command before after × (outcome ≡ last_outcome after.last)) ⊎ IsRefusedCall IsCause before after outcome
+    (IsStep job command before after × (outcome ≡ last_outcome after.last) × IsWithin IsCause) ⊎ IsRefusedCall IsCause before after outcome
 
 -- ---- calls that answer a number
 
@@ -114,7 +123,7 @@ IsRefusedNumber IsCause before after outcome number = IsRefusedCall IsCause befo
 -- as a typed call, and the number is the last reply's; where it was refused before it is 0
 abbrev pub IsNumberCall : (Refusal → Type 0) → ℕ → Command → Embedded → Embedded → Outcome → ℕ → Type 0
 IsNumberCall IsCause job command before after outcome number =
-    (IsStep job command before after × (outcome ≡ last_outcome after.last) × (number ≡ last_number after.last))
+    (IsStep job command before after × (outcome ≡ last_outcome after.last) × (number ≡ last_number after.last) × IsWithin IsCause)
     ⊎ IsRefusedNumber IsCause before after outcome number
 
 -- ---- calls that copy a value
@@ -165,10 +174,10 @@ pub record IsLeftRefused (IsCause : Refusal → Type 0) (before after : Embedded
   pub left : new ≡ old
   pub told : wanted ≡ 0
 
--- the step was done and its value copied, or it was refused before
+-- the step was done within its limits and its value copied, or it was refused before
 abbrev pub IsValueCall : (Refusal → Type 0) → ℕ → Command → Embedded → Embedded → Outcome → List ℕ → List ℕ → ℕ → Type 0
 IsValueCall IsCause job command before after result old new wanted =
-    (IsStep job command before after × IsValueCopied after.last result old new wanted) ⊎ IsLeftRefused IsCause before after result old new wanted
+    (IsStep job command before after × IsValueCopied after.last result old new wanted × IsWithin IsCause) ⊎ IsLeftRefused IsCause before after result old new wanted
 
 -- ---- $QUERY
 
@@ -200,10 +209,10 @@ abbrev pub IsFoundTaken : Option Answered → Reference → Reference → Outcom
 IsFoundTaken last old new result =
     MatchOption (last_found last) ((new ≡ old) × (result ≡ last_refused_else AtEnd last)) (λ found. IsKeyOf found old new result)
 
--- the step was done and the key moved to what was found, or it was refused before
+-- the step was done within its limits and the key moved to what was found, or it was refused before
 abbrev pub IsFoundCall : (Refusal → Type 0) → ℕ → Command → Embedded → Embedded → Reference → Reference → Outcome → Type 0
 IsFoundCall IsCause job command before after old new result =
-    (IsStep job command before after × IsFoundTaken after.last old new result)
+    (IsStep job command before after × IsFoundTaken after.last old new result × IsWithin IsCause)
     ⊎ (IsRefusedCall IsCause before after result × (new ≡ old))
 
 -- ---- $ORDER of names
@@ -213,7 +222,7 @@ abbrev pub IsNameCopied : Option Answered → Outcome → List ℕ → List ℕ 
 IsNameCopied last result old new wanted =
     MatchOption (last_found last) (IsLeft (last_refused_else AtEnd last) result old new wanted) (λ found. IsCopied found.name Done result old new wanted)
 
--- the step was done and the name copied, or it was refused before
+-- the step was done within its limits and the name copied, or it was refused before
 abbrev pub IsNameCall : (Refusal → Type 0) → ℕ → Command → Embedded → Embedded → Outcome → List ℕ → List ℕ → ℕ → Type 0
 IsNameCall IsCause job command before after result old new wanted =
-    (IsStep job command before after × IsNameCopied after.last result old new wanted) ⊎ IsLeftRefused IsCause before after result old new wanted
+    (IsStep job command before after × IsNameCopied after.last result old new wanted × IsWithin IsCause) ⊎ IsLeftRefused IsCause before after result old new wanted

@@ -1,7 +1,7 @@
 //! Typed calls on keys.
 ghost use Rattle.std.specs.Prelude.{◌≡◌, ◌++◌, ◌∷◌, [], IfErr, OnErr, OnOk};
 ghost use Rattle.typed_calls.specs.Commands.{caret_name, data_command as data_of, get_command as get_of, increment_command as increment_of, kill_command as kill_of, kill_subscripts_command as kill_subscripts_of, kill_value_command as kill_value_of, lock_command as lock_of_key, lock_of, merge_command as merge_of, name_command as name_of, order_command as order_of, query_command as query_of, set_command as set_of};
-ghost use Rattle.typed_calls.specs.Typed.{IsCauseBefore, IsFoundCall, IsJobCause, IsMemory, IsNameCall, IsNameCause, IsNoList, IsNumberCall, IsNumberCause, IsPlaceCause, IsRefusedNumber, IsTypedCall, IsValueCall, IsValueCause};
+ghost use Rattle.typed_calls.specs.Typed.{IsCauseBefore, IsFoundCall, IsJobCause, IsMemory, IsNameCall, IsNameCause, IsNoList, IsNumberCall, IsNumberCause, IsPlaceCause, IsQueryCause, IsRefusedNumber, IsTypedCall, IsValueCall, IsValueCause};
 
 use crate::commands::{
     LockForm, data_command, get_command, increment_command, kill_command, lock_command,
@@ -231,8 +231,9 @@ pub fn order(
 /// Moves the key to the nearest node with a value, in the same name. Where `is_open`, an empty subscript follows the
 /// key: backward that is behind all under it, forward it makes no difference.
 ///
-/// Outcomes: those of `run_command`; before the step `OutOfMemory`; `AtEnd` where no node is left; `ReplyKept` where
-/// memory is refused for a key of over 38 bytes: the step is done. After all of these the key is as it was.
+/// Outcomes: those of `run_command`; before the step `TooManySubscripts` where an empty subscript would follow a key with
+/// 31, and `OutOfMemory`; `AtEnd` where no node is left; `ReplyKept` where memory is refused for a key of over 38 bytes:
+/// the step is done. After all of these the key is as it was.
 pub fn query(
     engine: &mut Embedded,
     job: u64,
@@ -240,7 +241,7 @@ pub fn query(
     is_open: bool,
     direction: Direction,
 ) -> Outcome
-    ensures { IsFoundCall (λ refusal. IsCauseBefore IsMemory job refusal) job (query_of key.old is_open direction) engine.old engine.new key.old key.new result }
+    ensures { IsFoundCall (λ refusal. IsCauseBefore (IsQueryCause key.old is_open) job refusal) job (query_of key.old is_open direction) engine.old engine.new key.old key.new result }
 {
     match query_command(key, is_open, direction) {
         Ok(command) => run_found(engine, job, command, key),

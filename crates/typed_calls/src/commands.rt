@@ -1,16 +1,16 @@
 //! Commands on keys, built for one step.
-ghost use Rattle.std.specs.Prelude.{◌≡◌, IfErr, IfOk};
+ghost use Rattle.std.specs.Prelude.{◌≡◌, false, IfErr, IfOk, OnOk};
 ghost use Rattle.typed_calls.specs.Commands.{data_command as data_of, get_command as get_of, increment_command as increment_of, lock_command as lock_of_key, lock_of, merge_command as merge_of, name_command as name_of, order_command as order_of, query_command as query_of, start_of as start_by};
-ghost use Rattle.typed_calls.specs.Typed.{IsMemory, IsNameCause, IsNumberCause, IsPlaceCause};
+ghost use Rattle.typed_calls.specs.Typed.{IsMemory, IsNameCause, IsNumberCause, IsPlaceCause, IsQueryCause, IsWithin};
 
-use crate::keys::place_below;
+use crate::keys::{open_below, place_below};
 use canonic_number::is_canonic;
 use collation::{Direction, LONGEST_VALUE, Name, Text};
 use command::{Command, DataCommand, Extent, Look};
 use key_codec::{Key, Place};
 use lock_name::{LockCommand, LockName, LockNames};
 use refusal::Refusal;
-use std::alloc::{AllocError, Global};
+use std::alloc::Global;
 
 /// The forms of LOCK with a name.
 #[derive(Clone, Copy, Debug, PartialEq, Eq)]
@@ -64,6 +64,7 @@ pub fn merge_command(to: &Key, from: &Key) -> Result<Command, Refusal>
 /// Refusals: `BadLine` where it isn't canonic, `ValueTooLong` over 32,767 bytes; `OutOfMemory`.
 pub fn increment_command(alloc: Global, key: &Key, number: &[u8]) -> Result<Command, Refusal>
     ensures ok { IfOk result (λ command. command ≡ increment_of key.now number.now) }
+    ensures within { OnOk result (IsWithin (λ refusal. IsNumberCause number.now refusal)) }
     ensures err { IfErr result (λ refusal. IsNumberCause number.now refusal) }
 {
     if !is_canonic(number) {
@@ -109,28 +110,45 @@ pub fn order_command(
     direction: Direction,
 ) -> Result<Command, Refusal>
     ensures ok { IfOk result (λ command. command ≡ order_of level.now start.now direction) }
+    ensures within { OnOk result (IsWithin (λ refusal. IsPlaceCause level.now start.now refusal)) }
     ensures err { IfErr result (λ refusal. IsPlaceCause level.now start.now refusal) }
 {
     let place = place_below(alloc, level, start)?;
     Ok(Command::Access(DataCommand::Look(Look::Order(place, direction))))
 }
 
-/// The place of the key, or of an empty subscript below it.
-///
-/// `AllocError` where memory is refused.
-pub fn place_at(key: &Key, is_open: bool) -> Result<Place, AllocError>
-    ensures { IfOk result (λ place. place ≡ record { reference = key.now; is_open = is_open }) }
+// The place of the key.
+fn closed_at(key: &Key) -> Result<Place, Refusal>
+    ensures ok { IfOk result (λ place. place ≡ record { reference = key.now; is_open = false }) }
+    ensures within { OnOk result (IsWithin (λ refusal. IsMemory refusal)) }
+    ensures err { IfErr result (λ refusal. IsMemory refusal) }
 {
     let key = key.clone()?;
-    Ok(Place::new(key, is_open))
+    Ok(Place::new(key, false))
+}
+
+/// The place of the key, or of an empty subscript below it.
+///
+/// Refusals: `TooManySubscripts` where an empty subscript would follow a key with 31; `OutOfMemory`.
+pub fn place_at(key: &Key, is_open: bool) -> Result<Place, Refusal>
+    ensures ok { IfOk result (λ place. place ≡ record { reference = key.now; is_open = is_open }) }
+    ensures within { OnOk result (IsWithin (λ refusal. IsQueryCause key.now is_open refusal)) }
+    ensures err { IfErr result (λ refusal. IsQueryCause key.now is_open refusal) }
+{
+    if is_open {
+        open_below(key)
+    } else {
+        closed_at(key)
+    }
 }
 
 /// $QUERY from the key, or from an empty subscript below it.
 ///
-/// Refusals: `OutOfMemory`.
+/// Refusals: `TooManySubscripts` where an empty subscript would follow a key with 31; `OutOfMemory`.
 pub fn query_command(key: &Key, is_open: bool, direction: Direction) -> Result<Command, Refusal>
     ensures ok { IfOk result (λ command. command ≡ query_of key.now is_open direction) }
-    ensures err { IfErr result (λ refusal. IsMemory refusal) }
+    ensures within { OnOk result (IsWithin (λ refusal. IsQueryCause key.now is_open refusal)) }
+    ensures err { IfErr result (λ refusal. IsQueryCause key.now is_open refusal) }
 {
     let place = place_at(key, is_open)?;
     Ok(Command::Access(DataCommand::Look(Look::Query(place, direction))))
@@ -139,6 +157,7 @@ pub fn query_command(key: &Key, is_open: bool, direction: Direction) -> Result<C
 // The name of these bytes, and none where they are empty.
 fn start_of(alloc: Global, start: &[u8]) -> Result<Option<Name>, Refusal>
     ensures ok { IfOk result (λ name. name ≡ start_by start.now) }
+    ensures within { OnOk result (IsWithin (λ refusal. IsNameCause start.now refusal)) }
     ensures err { IfErr result (λ refusal. IsNameCause start.now refusal) }
 {
     if start.is_empty() {
@@ -156,6 +175,7 @@ fn start_of(alloc: Global, start: &[u8]) -> Result<Option<Name>, Refusal>
 /// Refusals: `BadName` where it is neither empty nor a name; `OutOfMemory`.
 pub fn name_command(alloc: Global, start: &[u8], direction: Direction) -> Result<Command, Refusal>
     ensures ok { IfOk result (λ command. command ≡ name_of start.now direction) }
+    ensures within { OnOk result (IsWithin (λ refusal. IsNameCause start.now refusal)) }
     ensures err { IfErr result (λ refusal. IsNameCause start.now refusal) }
 {
     let name = start_of(alloc, start)?;

@@ -1,9 +1,10 @@
 //! Keys of names and subscripts.
-ghost use Rattle.std.specs.Prelude.{◌≡◌, ◌-◌, ◌^◌, [], None, if◌then◌else◌, min, length, IfErr, IfOk};
+ghost use Rattle.std.specs.Prelude.{◌≡◌, ◌-◌, ◌^◌, [], None, true, if◌then◌else◌, min, length, IfErr, IfOk, OnOk};
 ghost use Rattle.collation.specs.Name.{is_name as is_name_spec};
-ghost use Rattle.key_codec.specs.Draft.{IsDueOrMemory, longer, place_due, place_of, reference_due};
+ghost use Rattle.key_codec.specs.Draft.{IsDueOrMemory, longer, place_of, reference_due};
 ghost use Rattle.typed_calls.specs.Commands.{below_fault};
 ghost use Rattle.typed_calls.specs.Spelled.{due_in_turn, texts_of};
+ghost use Rattle.typed_calls.specs.Typed.{IsPlaceCause, IsWithin};
 
 use canonic_number::LONGEST_SUBSCRIPT;
 use collation::{MOST_SUBSCRIPTS, Text, is_name};
@@ -100,6 +101,7 @@ pub fn spell_key(
 /// `OutOfMemory`.
 pub fn key_below(alloc: Global, key: &Key, subscript: &[u8]) -> Result<Key, Refusal>
     ensures ok { IfOk result (λ below. below ≡ longer key.now subscript.now) }
+    ensures due { OnOk result (reference_due (longer key.now subscript.now) ≡ None) }
     ensures err { IfErr result (λ refusal. IsDueOrMemory refusal (reference_due (longer key.now subscript.now))) }
 {
     let _form = key.as_slice();
@@ -112,10 +114,11 @@ pub fn key_below(alloc: Global, key: &Key, subscript: &[u8]) -> Result<Key, Refu
 }
 
 // The open place below a key: an empty subscript follows.
-#[tactic(auto, using(crate::proofs::Below::open_place, crate::proofs::Below::open_due))]
-fn open_below(key: &Key) -> Result<Place, Refusal>
-    ensures ok { IfOk result (λ place. place ≡ place_of (longer key.now [])) }
-    ensures err { IfErr result (λ refusal. IsDueOrMemory refusal (place_due (longer key.now []))) }
+#[tactic(auto, using(crate::proofs::Below::open_due))]
+pub(crate) fn open_below(key: &Key) -> Result<Place, Refusal>
+    ensures ok { IfOk result (λ place. place ≡ record { reference = key.now; is_open = true }) }
+    ensures within { OnOk result (IsWithin (λ refusal. IsPlaceCause key.now [] refusal)) }
+    ensures err { IfErr result (λ refusal. IsPlaceCause key.now [] refusal) }
 {
     let _form = key.as_slice();
     if depth_of(key) >= MOST_SUBSCRIPTS as u64 {
@@ -129,10 +132,11 @@ fn open_below(key: &Key) -> Result<Place, Refusal>
 ///
 /// Refusals, in this order: `TooManySubscripts` over 31, an empty one among them; `SubscriptTooLong` over 255 bytes;
 /// `OutOfMemory`.
-#[tactic(auto, using(crate::proofs::Below::open_place, crate::proofs::Below::closed_place, crate::proofs::Below::closed_due))]
+#[tactic(auto, using(crate::proofs::Below::closed_place, crate::proofs::Below::closed_due))]
 pub fn place_below(alloc: Global, key: &Key, subscript: &[u8]) -> Result<Place, Refusal>
     ensures ok { IfOk result (λ place. place ≡ place_of (longer key.now subscript.now)) }
-    ensures err { IfErr result (λ refusal. IsDueOrMemory refusal (place_due (longer key.now subscript.now))) }
+    ensures within { OnOk result (IsWithin (λ refusal. IsPlaceCause key.now subscript.now refusal)) }
+    ensures err { IfErr result (λ refusal. IsPlaceCause key.now subscript.now refusal) }
 {
     if subscript.is_empty() {
         return open_below(key);

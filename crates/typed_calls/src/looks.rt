@@ -12,7 +12,6 @@ use collation::{Direction, Job};
 use command::Command;
 use embedded::{Embedded, Outcome};
 use key_codec::Key;
-use refusal::Refusal;
 use std::alloc::Global;
 
 /// Begins a view for a job that has no open transaction: a TSTART, after which the job's number is a moment for looks.
@@ -61,7 +60,7 @@ pub fn look_order(
 
 /// Moves the key to the node that `query` would answer, in the database of a moment; it is no command.
 ///
-/// Outcomes: those of `Embedded::look_query`.
+/// Outcomes: those of `Embedded::look_query`; before the look those of `query`.
 pub fn look_query(
     engine: &Embedded,
     moment: u64,
@@ -73,7 +72,7 @@ pub fn look_query(
 {
     match place_at(key, is_open) {
         Ok(place) => engine.look_query(moment, &place, direction, key),
-        Err(_) => Outcome::Refused(Refusal::OutOfMemory),
+        Err(refusal) => Outcome::Refused(refusal),
     }
 }
 

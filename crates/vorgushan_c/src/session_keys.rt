@@ -4,7 +4,7 @@ ghost use Rattle.std.specs.Prelude.{◌≡◌, ⊤};
 ghost use Rattle.command.specs.declared.request.Command.{Command};
 ghost use Rattle.command.specs.declared.access.DataCommand.{DataCommand};
 ghost use Rattle.typed_calls.specs.Commands.{data_command, get_command, increment_command, merge_command, name_command, order_command, query_command, set_command};
-ghost use Rattle.typed_calls.specs.Typed.{IsFoundTaken, IsMemory, IsNameCause, IsNameCopied, IsNumberCause, IsPlaceCause, IsValueCause, IsValueCopied, last_number, last_outcome};
+ghost use Rattle.typed_calls.specs.Typed.{IsFoundTaken, IsMemory, IsNameCause, IsNameCopied, IsNumberCause, IsPlaceCause, IsQueryCause, IsValueCause, IsValueCopied, last_number, last_outcome};
 ghost use Rattle.session_calls.specs.Calls.{IsCall};
 ghost use Rattle.vorgushan_c.specs.Keys as keys;
 ghost use Rattle.vorgushan_c.specs.Keys.{IsMoved};
@@ -271,7 +271,7 @@ pub extern "C" fn vorgushan_s_query(
     backward: u32,
 ) -> u32
     ensures { IsSeatKeyCalled session.old.inside session.new.inside key.old.inside result (key.new.inside ≡ key.old.inside) (λ reference before after answered.
-        IsMoved key.new.inside (λ found. IsCall IsMemory (query_command reference (keys.is_not_0 is_open) (keys.direction_of backward)) (λ last outcome. IsFoundTaken last reference found outcome) (found ≡ reference) before after answered)) }
+        IsMoved key.new.inside (λ found. IsCall (IsQueryCause reference (keys.is_not_0 is_open)) (query_command reference (keys.is_not_0 is_open) (keys.direction_of backward)) (λ last outcome. IsFoundTaken last reference found outcome) (found ≡ reference) before after answered)) }
 {
     let Some(mut there) = session.take(alloc) else {
         return Outcome::NoEngine.number();

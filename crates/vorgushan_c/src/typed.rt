@@ -2,7 +2,7 @@
 ghost use Rattle.std.specs.Prelude.{◌≡◌, ◌⊎◌, ⊤};
 ghost use Rattle.embedded.specs.Outcomes.{outcome_number};
 ghost use Rattle.typed_calls.specs.Commands.{data_command, get_command, kill_command, lock_command, merge_command, order_command, query_command, set_command};
-ghost use Rattle.typed_calls.specs.Typed.{IsCauseBefore, IsFoundCall, IsMemory, IsNumberCall, IsPlaceCause, IsTypedCall, IsValueCall, IsValueCause};
+ghost use Rattle.typed_calls.specs.Typed.{IsCauseBefore, IsFoundCall, IsMemory, IsNumberCall, IsPlaceCause, IsQueryCause, IsTypedCall, IsValueCall, IsValueCause};
 ghost use Rattle.vorgushan_c.specs.Keys as spec;
 ghost use Rattle.vorgushan_c.specs.Keys.{IsKeyCalled, IsKeysCalled, IsMoved};
 
@@ -220,7 +220,7 @@ pub extern "C" fn vorgushan_query(
     backward: u32,
 ) -> u32
     ensures { IsKeyCalled engine.old.inside engine.new.inside key.old.inside result (key.new.inside ≡ key.old.inside) (λ reference before after outcome.
-        IsMoved key.new.inside (λ found. IsFoundCall (λ refusal. IsCauseBefore IsMemory job refusal) job (query_command reference (spec.is_not_0 is_open) (spec.direction_of backward)) before after reference found outcome)) }
+        IsMoved key.new.inside (λ found. IsFoundCall (λ refusal. IsCauseBefore (IsQueryCause reference (spec.is_not_0 is_open)) job refusal) job (query_command reference (spec.is_not_0 is_open) (spec.direction_of backward)) before after reference found outcome)) }
 {
     let Some(mut there) = engine.take(alloc) else {
         return Outcome::NoEngine.number();

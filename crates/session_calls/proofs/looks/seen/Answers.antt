@@ -11,4 +11,10 @@ returns-in-Ok-Ok-clause-seen c =
 pub returns-in-Ok-Err-clause-seen : goal.returns-in-Ok-Err-clause-seen
 returns-in-Ok-Err-clause-seen c =
     let m = subst (IsMoment c.args.at_start c.in-Some.session.held c.moment.new.session.held) c.in-Ok-Err.field-0-is c.in-Ok-Err.ensures.seen in
-    (same_seat c.args.seat.now c.in-Some.session c.moment.new.session (search rules) (same_session _ _ c.moment.ensures.table m.1), inl m.0)
+    inl (record {
+      session = c.in-Some.session;
+      there = search rules;
+      closed = m.0;
+      left = same_seat c.args.seat.now c.in-Some.session c.moment.new.session (search rules) (same_session _ _ c.moment.ensures.table m.1.1);
+      told = m.1.0;
+    })
