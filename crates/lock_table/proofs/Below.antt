@@ -1,5 +1,5 @@
 -- Who has a name or a descendant of it.
-use Rattle.std.proofs.Common.{◌≡◌, ◌<◌, ℕ, List, [], ◌∷◌, length, Bool, true, false, refl, sym, ap, subst, ◌∙◌, arith}
+use Rattle.std.proofs.Common.{◌≡◌, ◌<◌, ℕ, List, [], ◌∷◌, Bool, true, false, refl, sym, ap, subst, ◌∙◌, arith}
 use Rattle.std.specs.Bool.{beq}
 use Rattle.std.specs.Prelude.{cond, ◌==◌, ◌&&◌, not, nat_lt, Option, Some, None, IsSome, unwrap_or}
 use Rattle.std.specs.declared.cmp.Ordering.{Ordering}
@@ -199,9 +199,3 @@ by_another trie s job n b joined is yes_ =
 
 pub by_none : (trie : Held) (s : LockState) (job : ℕ) (n : Resource) (b : Bool) → RowsMatchTrie trie s → b ≡ is_blocked_below s job n → b ≡ false → IsHeldBelow trie job n → ⊥
 by_none trie s job n b joined is no_ t = let clash : true ≡ false = sym (told_there trie s job n joined t) ∙ sym is ∙ no_ in absurd (cc)
-
--- where the trie has no name no job holds one
-pub none_held : (trie : Held) (s : LockState) → RowsMatchTrie trie s → length (finmap.entries trie) ≡ 0 → (job : ℕ) (x : Resource) → count_of (locks_of job s).held x ≡ 0
-none_held trie s joined none job x =
-    let is_empty : trie ≡ finmap.empty = finmap.empty_of_len trie (finmap.len-entries trie ∙ none) in
-    sym (joined job x) ∙ ap (λ t. held_count t job x) is_empty ∙ ap (λ o. counted (unwrap_or o []) job) (finmap.get-empty resource_cmp x)

@@ -8,3 +8,4 @@ pub mod Wants
 pub mod Rows
 pub mod Tables
 pub mod Below
+pub mod Numbers

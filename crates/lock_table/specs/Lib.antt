@@ -2,3 +2,4 @@ pub mod Codes
 pub mod Counted
 pub mod Rows
 pub mod Tables
+pub mod TableStatements

@@ -47,16 +47,18 @@
 //!
 //! `check` looks at the counts of the names that are asked for; `reply` takes no memory.
 //!
-//! Read `specs/Rows.antt`, then `table.rt`, `command.rt`, `row.rt`, `inside.rt`, `wanted.rt`, `moves.rt`, `counts.rt`.
-//! Not promised: any time.
+//! Read `specs/Rows.antt`, then `table.rt`, `command.rt`, `row.rt`, `inside.rt`, `wanted.rt`, `moves.rt`, `counts.rt`;
+//! `laws.rt` says what the number of held names comes to. Not promised: any time.
 #![tactic(auto)]
 
+pub use laws::held_names_have_one_number;
 pub use table::LockTable;
 
 mod chosen;
 mod command;
 mod counts;
 mod inside;
+mod laws;
 mod moves;
 mod row;
 mod table;

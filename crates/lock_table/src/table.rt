@@ -1,5 +1,5 @@
 //! The counts of all jobs, and the trie of what they hold.
-ghost use Rattle.std.specs.Prelude.{ℕ, true, false, ◌⊎◌, if◌then◌else◌, ◌≡◌, None, Some, is_some, OnOk, OnErr, IfErr, IfOk};
+ghost use Rattle.std.specs.Prelude.{true, false, ◌⊎◌, if◌then◌else◌, ◌≡◌, None, Some, is_some, OnOk, OnErr, IfErr, IfOk};
 ghost use Rattle.std.specs.List.{list_any};
 ghost use Rattle.std.specs.FinMap as finmap;
 ghost use Rattle.lock_name.specs.declared.lock.LockCommand.TheVariants.{Release, Only, More, Fewer};
@@ -7,7 +7,7 @@ ghost use Rattle.collation.specs.Reference.{Resource};
 ghost use Rattle.lock_name.specs.Locks.{no_locks, count_of, locks_of, changed, job_wants, is_blocked, lock_reply, lock_refusal, locks_after, locks_after_commit, locks_after_back, locks_after_end};
 ghost use Rattle.lock_table.specs.Counted.{is_listed};
 ghost use Rattle.lock_table.specs.Rows.{want_by, is_full_by};
-ghost use Rattle.lock_table.specs.Tables.{is_blocked_below, nothing};
+ghost use Rattle.lock_table.specs.Tables.{is_blocked_below, nothing, IsNumberHeld};
 
 use crate::counts::Counts;
 use crate::row::{Form, Row};
@@ -56,7 +56,7 @@ impl LockTable {
 
     /// How many names are held, each once for all jobs that hold it.
     pub fn names_held(&self) -> usize
-        ensures { result ≡ 0 → (job : ℕ) (x : Resource) → count_of (let l = locks_of job self.now in l.held) x ≡ 0 }
+        ensures { IsNumberHeld self.now result }
     {
         self.trie.len()
     }

@@ -3,7 +3,7 @@ ghost use Rattle.std.specs.Prelude.{length, true, false, ◌≡◌, ◌≤◌, �
 ghost use Rattle.std.specs.FinMap as finmap;
 ghost use Rattle.collation.specs.Limits.{most_locks};
 ghost use Rattle.collation.specs.Reference.{Resource};
-ghost use Rattle.lock_trie.specs.Held.{held_count, IsEntryPut, IsHeldBelow, IsHeldByAnother, IsHeldWhere, IsRecounted, IsSame};
+ghost use Rattle.lock_trie.specs.Held.{held_count, AreHeld, IsEntryPut, IsHeldBelow, IsHeldByAnother, IsHeldWhere, IsRecounted, IsSame};
 ghost use Rattle.lock_trie.specs.Holders.{entry_of, IsEntry};
 ghost use Rattle.lock_trie.specs.Names.{is_above, is_at_or_under as is_at_or_under_spec};
 
@@ -48,9 +48,10 @@ impl LockTrie {
         }
     }
 
-    /// How many names are held.
+    /// How many names are held: they are those that have an entry, and each of these has a holder.
     pub fn len(&self) -> usize
-        ensures { result ≡ length (finmap.entries self.now) }
+        ensures count { result ≡ length (finmap.entries self.now) }
+        ensures held { AreHeld self.now }
     {
         self.map.len()
     }
