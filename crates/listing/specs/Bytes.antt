@@ -1,5 +1,5 @@
 -- What was written, and what was read.
-use Rattle.std.specs.Prelude.{◌≡◌, ℕ, ◌+◌, ◌-◌, ◌^◌, ◌≤◌, min, List, ◌++◌, length, take, Option}
+use Rattle.std.specs.Prelude.{◌≡◌, ◌≢◌, ◌⊎◌, ℕ, ◌+◌, ◌-◌, ◌^◌, ◌≤◌, ◌<◌, min, List, ◌++◌, length, take, slice_index_or, Option}
 use Rattle.std.specs.Io.KnownBytes.{Appends}
 
 -- the first n bytes of the text were written
@@ -17,3 +17,7 @@ pub record WritesFront (old new : Option (List ℕ)) (gathered left : List ℕ) 
   pub written : List ℕ
   pub appended : Appends old new written
   pub rest : gathered ≡ written ++ left
+
+-- so many bytes of a text go at once: all; or they end with a line; or they are as many as may, and no line ends in them
+abbrev pub IsPiece : ℕ → List ℕ → ℕ → Type 0
+IsPiece most text n = (n ≡ length text) ⊎ ((slice_index_or text (n - 1) 0 ≡ 10) ⊎ ((n ≡ most) × ((i : ℕ) → i < n → slice_index_or text i 0 ≢ 10)))

@@ -1,7 +1,7 @@
 //! A reader or writer whose failed calls are counted.
-ghost use Rattle.std.specs.Prelude.{◌≡◌, ◌+◌, ◌≤◌, ◌<◌, ◌^◌, ◌-◌, ◌⊎◌, [], length, take, slice_index_or, IfOk, OnOk, OnErr};
+ghost use Rattle.std.specs.Prelude.{◌≡◌, ◌+◌, ◌≤◌, ◌<◌, ◌^◌, ◌-◌, [], length, take, IfOk, OnOk, OnErr};
 ghost use Rattle.std.specs.Io.KnownBytes.{Appends, Consumes, IsAtEnd, Keeps};
-ghost use Rattle.listing.specs.Bytes.{WritesBeginning, WritesFront, IsOneMore};
+ghost use Rattle.listing.specs.Bytes.{WritesBeginning, WritesFront, IsOneMore, IsPiece};
 
 use bstr::ByteSlice;
 use std::io::{Read, Write};
@@ -65,7 +65,8 @@ impl<T> Counted<T> {
 fn piece_len(text: &[u8]) -> usize
     requires { 0 < length text.now }
     ensures some { (0 < result) × (result ≤ length text.now) }
-    ensures line { (result ≡ length text.now) ⊎ ((slice_index_or text.now (result - 1) 0 ≡ 10) ⊎ (result ≡ PIECE_BYTES)) }
+    ensures few { result ≤ PIECE_BYTES }
+    ensures line { IsPiece PIECE_BYTES text.now result }
 {
     if text.len() <= PIECE_BYTES {
         return text.len();
