@@ -10,6 +10,8 @@ mod keys;
 #[cfg(test)]
 mod loops;
 #[cfg(test)]
+mod parted;
+#[cfg(test)]
 mod random;
 #[cfg(test)]
 mod skipped;

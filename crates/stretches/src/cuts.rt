@@ -74,3 +74,11 @@ pub(crate) fn has_cut(stretch: &ReadRange, cut: Cut<'_>) -> bool
 {
     is_at_most(stretch.low(), cut) && is_at_most(cut, stretch.high())
 }
+
+// Whether the stretch begins behind a reference and ends before one, as between two that were set. Advice.
+pub(crate) fn is_parted(stretch: &ReadRange) -> bool {
+    match (stretch.low(), stretch.high()) {
+        (Cut::After(_), Cut::Before(_)) => true,
+        _ => false,
+    }
+}

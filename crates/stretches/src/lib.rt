@@ -7,8 +7,10 @@
 //! They lie in one list, in order and apart (`AreInOrder`), and are found by halves: so a look-up or a write that enters
 //! none takes steps as the logarithm of their number, and no memory. One that is noted becomes one with those that it
 //! touches. Where there are 1,024 one is dropped before, each in its turn and not in their order, so that who looks at
-//! somewhat more places in turn finds most of them. The places that a search gives are advice: the neighbours there are
-//! looked at, and since all are in order what holds of these holds of all (`Fits`).
+//! somewhat more places in turn finds most of them. A SET that parts one of 1,024 drops neither part, since either may
+//! lie ahead of the next SET, but another: that behind, if it lies between two references that were set, else one in
+//! its turn. The places that a search gives are advice: the neighbours there are looked at, and since all are in order
+//! what holds of these holds of all (`Fits`).
 //!
 //! A stretch takes 104 bytes, and memory of its own for an end of over 38 bytes: 1,024 take 106 KB beside such ends. Of
 //! a transaction what more than 16 took goes back as it begins anew (`clear`); the core keeps the room of the most that

@@ -9,7 +9,7 @@ ghost use Rattle.globals.specs.Cuts.{stands_before, stands_under, stands_within}
 ghost use Rattle.read_ranges.specs.Ranges.{between, is_in, is_in_one};
 ghost use Rattle.stretches.specs.Empty.{AreEmpty, AreEmptyBut, AreEndedBy, AreLeft, AreNoMore, ArePut, BeginFrom, EndsBetween, Fits, FitsIn, IsEmpty, IsRightWay, LiesIn, PartAlike, StartsBetween};
 
-use crate::cuts::{ends_between, has_cut, stands_between};
+use crate::cuts::{ends_between, has_cut, is_parted, stands_between};
 use crate::left::Left;
 use crate::parts::{cut_out, joined, part_before, part_behind, put_in_place};
 use command::DataCommand;
@@ -290,14 +290,35 @@ impl Stretches {
         }
     }
 
-    // Puts in the part behind: right behind the place of the part before, where that was left.
+    // Puts in the part behind: right behind the place of the part before, where that was left. Where they are the most it
+    // takes the place of the one there, if that lies between two that were set, as behind SETs in falling order; else one
+    // is dropped in its turn, but not the part before, which may lie ahead of the next SET.
     fn put_back(&mut self, first: usize, part: ReadRange)
         ensures { AreNoMore part self.old self.new }
     {
         let place = self.place_from(first, part.low());
-        if place <= self.list.len() {
-            self.put(place, place, part);
+        if MOST <= self.list.len() && self.is_parted(place) {
+            self.put(place, place + 1, part);
+        } else {
+            self.put_one(place, part);
         }
+    }
+
+    // Puts in one more at a place; where they are the most another is dropped.
+    fn put_one(&mut self, place: usize, stretch: ReadRange)
+        ensures { AreNoMore stretch self.old self.new }
+    {
+        let place = self.make_room(place);
+        if place <= self.list.len() {
+            self.put(place, place, stretch);
+        }
+    }
+
+    // Whether there is one at the place, and was parted at both its ends.
+    fn is_parted(&self, place: usize) -> bool
+        ensures { result ≡ true → place < length self.now }
+    {
+        place < self.list.len() && is_parted(&self.list[place])
     }
 
     // A place or the next, if that at the place ends before the cut. Advice.
@@ -359,7 +380,6 @@ impl Stretches {
     pub fn note(&mut self, stretch: &ReadRange)
         ensures { AreNoMore stretch.now self.old self.new }
     {
-        self.make_room();
         let first = self.count_short(stretch.low());
         let last = self.count_begun(stretch.high());
         if first < last {
@@ -369,17 +389,28 @@ impl Stretches {
         }
     }
 
-    // Where they are the most the one is dropped whose turn it is.
-    fn make_room(&mut self)
+    // Where they are the most drops the one whose turn it is. The result is where a place is then.
+    fn make_room(&mut self, place: usize) -> usize
         ensures { (x : Reference) → is_in_one self.new x ≡ true → is_in_one self.old x ≡ true }
     {
         if self.list.len() < MOST {
-            return;
+            return place;
         }
-        let turn = (self.turn % MOST + STRIDE) % MOST;
+        let turn = self.next_turn(place);
         self.turn = turn;
-        if turn < self.list.len() {
-            self.remove_between(turn, turn + 1);
+        self.remove_between(turn, turn + 1);
+        if turn < place { place - 1 } else { place }
+    }
+
+    // Whose turn it is: not that of the one before the place, but the next's.
+    fn next_turn(&self, place: usize) -> usize
+        ensures { result < 1024 }
+    {
+        let turn = (self.turn % MOST + STRIDE) % MOST;
+        if turn + 1 == place {
+            place % MOST
+        } else {
+            turn
         }
     }
 
@@ -400,11 +431,8 @@ impl Stretches {
     fn put_new(&mut self, place: usize, stretch: &ReadRange)
         ensures { AreNoMore stretch.now self.old self.new }
     {
-        if place > self.list.len() {
-            return;
-        }
         match ReadRange::new(stretch.low(), stretch.high()) {
-            Ok(copy) => self.put(place, place, copy),
+            Ok(copy) => self.put_one(place, copy),
             Err(AllocError) => {}
         }
     }
