@@ -82,7 +82,7 @@ mrun, and its lines have to be sent again. --collect-every and
 
 At the top of the repository, or of the package, four jobs share a queue:
 
-  mjobs --load examples/mjobs/queue.txt --workers 4 examples/mjobs/workers.txt
+  ./mjobs --load examples/mjobs/queue.txt --workers 4 examples/mjobs/workers.txt
 
 To keep a database from run to run:
 

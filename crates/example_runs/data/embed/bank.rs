@@ -27,7 +27,7 @@ unsafe extern "C" {
 }
 
 const DONE: u32 = 0;
-const LAST_REFUSAL: u32 = 18;
+const LAST_REFUSAL: u32 = 19;
 const BUFFER_TOO_SHORT: u32 = 34;
 const RESTARTED: u32 = 40;
 
