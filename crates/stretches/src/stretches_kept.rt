@@ -248,8 +248,8 @@ impl Stretches {
         }
     }
 
-    // Takes out what lies between two cuts: of those that have some of it their parts before and behind are left, but
-    // where they are the most already, or memory is refused.
+    // Takes out what lies between two cuts: of those that have some of it their parts before and behind are left, less
+    // where memory is refused. Where they are the most already another is dropped.
     fn take_out(&mut self, low: Cut<'_>, high: Cut<'_>)
         ensures { AreLeft low.entry high.entry self.old self.new }
     {
