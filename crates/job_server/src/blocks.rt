@@ -1,5 +1,5 @@
 //! Blocks: a TSTART, and the lines behind it as often as they are overtaken.
-ghost use Rattle.std.specs.Prelude.{◌≡◌, ◌≢◌, true, false, IfOk, IfSome, IfNone, OnOk};
+ghost use Rattle.std.specs.Prelude.{◌≡◌, ◌≢◌, ◌⊎◌, true, false, IfOk, IfSome, IfNone, OnOk};
 ghost use Rattle.command.specs.declared.request.Command.{Command};
 ghost use Rattle.command.specs.declared.request.Reply.{Reply};
 ghost use Rattle.job_scripts.specs.Lines.{Asks};
@@ -33,14 +33,16 @@ pub(crate) enum Tried<'b> {
 
 // Whether a command that is replied so has begun a transaction.
 fn is_begun(reply: &Reply) -> bool
-    ensures { result ≡ true → reply.now ≡ Reply.AtLevel 1 }
+    ensures begun { result ≡ true → reply.now ≡ Reply.AtLevel 1 }
+    ensures not { result ≡ false → reply.now ≢ Reply.AtLevel 1 }
 {
     matches!(reply, Reply::AtLevel(1))
 }
 
 // Whether a TCOMMIT or TROLLBACK that is replied so has ended its transaction.
 fn is_over(reply: &Reply) -> bool
-    ensures { result ≡ false → (reply.now ≢ Reply.Committed) × (reply.now ≢ Reply.Finished) }
+    ensures goes_on { result ≡ false → (reply.now ≢ Reply.Committed) × (reply.now ≢ Reply.Finished) }
+    ensures over { result ≡ true → (reply.now ≡ Reply.Committed) ⊎ (reply.now ≡ Reply.Finished) }
 {
     matches!(reply, Reply::Committed | Reply::Finished)
 }

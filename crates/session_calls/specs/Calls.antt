@@ -1,8 +1,9 @@
 -- What the calls of a session answer and leave.
 -- Read IsStep, then IsCall: each call cites it with its command, and with what it tells of the reply.
-use Rattle.std.specs.Prelude.{◌≡◌, ◌⊎◌, ℕ, Bool, true, false, List, [], Option, None, Some, Result, Ok, Err}
+use Rattle.std.specs.Prelude.{◌≡◌, ◌⊎◌, ◌≤◌, ℕ, Bool, true, false, List, [], Option, None, Some, Result, Ok, Err}
 use Rattle.refusal.specs.declared.Refusal.{Refusal}
 use Rattle.refusal.specs.declared.Refusal.TheVariants.{BadJob, OutOfMemory}
+use Rattle.collation.specs.Limits.{most_jobs}
 use Rattle.lock_name.specs.declared.lock.LockCommand.{LockCommand}
 use Rattle.command.specs.declared.request.Command.{Command}
 use Rattle.journal.specs.declared.unit.Unit.{Unit as JournalUnit}
@@ -54,18 +55,22 @@ IsNoCause refusal = ⊥
 abbrev pub HasNone : Seat → Seat → Outcome → Type 0
 HasNone before after outcome = (before.session ≡ None) × (after ≡ before) × (outcome ≡ NoEngine)
 
+-- the seat has a session, but others are at what all share: nothing has changed
+abbrev pub IsKeptOut : Seat → Seat → Type 0
+IsKeptOut before after = (before.session ≡ None → ⊥) × (after ≡ before)
+
 -- the command was done, where there is a session; or there is none, or others are at what all share: then nothing has changed
 abbrev pub IsStepOrNone : Command → Seat → Seat → Result Bool Busy → Type 0
 IsStepOrNone command before after (Ok true) = IsStep command before after
 IsStepOrNone command before after (Ok false) = (before.session ≡ None) × (after ≡ before)
-IsStepOrNone command before after (Err busy) = after ≡ before
+IsStepOrNone command before after (Err busy) = IsKeptOut before after
 
--- the command was done within its limits, and this is told of its reply; or it was refused before, or there is no session, or others are at
--- what all share: then nothing has changed, and this is left
+-- the command was done within its limits, and this is told of its reply; or it was refused before, or there is no session; or it is within its
+-- limits, and others are at what all share: then nothing has changed, and this is left
 abbrev pub IsCall : (Refusal → Type 0) → Command → (Option Answered → Outcome → Type 0) → Type 0 → Seat → Seat → Result Outcome Busy → Type 0
 IsCall IsCause command Tells Left before after (Ok outcome) =
     (IsStep command before after × Tells after.last outcome × IsWithin IsCause) ⊎ ((IsRefusedBefore IsCause before after outcome ⊎ HasNone before after outcome) × Left)
-IsCall IsCause command Tells Left before after (Err busy) = (after ≡ before) × Left
+IsCall IsCause command Tells Left before after (Err busy) = IsKeptOut before after × IsWithin IsCause × Left
 
 -- one more try of a LOCK: it has its names; or it hasn't, and nothing was done; or it was refused
 abbrev pub HasTriedAgain : LockCommand → ℕ → Outcome → Held → Held → Type 0
@@ -78,7 +83,7 @@ HasTriedAgain command had outcome old new =
 abbrev pub IsAgain : LockCommand → ℕ → Seat → Seat → Result Outcome Busy → Type 0
 IsAgain command had before after (Ok outcome) =
     (IsOnSession before after (HasTriedAgain command had outcome) × (after.last ≡ before.last)) ⊎ (HasNone before after outcome × (had ≡ 0))
-IsAgain command had before after (Err busy) = (after ≡ before) × (had ≡ 0)
+IsAgain command had before after (Err busy) = IsKeptOut before after × (had ≡ 0)
 
 -- ---- a session begins
 
@@ -95,8 +100,9 @@ pub record IsOpened (job : ℕ) (seat : Seat) : Type 0 where
 abbrev pub IsCauseOfOpening : Refusal → Type 0
 IsCauseOfOpening refusal = (refusal ≡ BadJob) ⊎ (refusal ≡ OutOfMemory)
 
--- a session of this job was begun in the seat's database; or it was refused, or others are at what all share: then nothing has changed
+-- a session of this job was begun in the seat's database; or it was refused, or it is a job's number and others are at what all share: then
+-- nothing has changed
 abbrev pub IsBegun : ℕ → Seat → Seat → Result (Result (Unit {0}) Refusal) Busy → Type 0
 IsBegun job before after (Ok (Ok done)) = (after.hub ≡ before.hub) × IsOpened job after
 IsBegun job before after (Ok (Err refusal)) = (after ≡ before) × IsCauseOfOpening refusal
-IsBegun job before after (Err busy) = after ≡ before
+IsBegun job before after (Err busy) = (1 ≤ job) × (job ≤ most_jobs) × (after ≡ before)

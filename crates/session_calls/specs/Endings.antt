@@ -11,7 +11,7 @@ use Rattle.hub.specs.declared.hub.Busy.{Busy}
 use Rattle.pin_board.specs.Slips.{IsBeginning}
 use Rattle.shared_engine.specs.Named.{PassAt, SessionAt}
 use Rattle.shared_engine.specs.Sessions.{Held, halted, knowing}
-use Rattle.session_calls.specs.Calls.{HasNone, IsOnSession}
+use Rattle.session_calls.specs.Calls.{HasNone, IsKeptOut, IsOnSession}
 use Rattle.session_calls.specs.declared.seat.Seat.{Seat}
 
 -- the journal is full: the session goes on, and has seen it
@@ -42,7 +42,7 @@ IsNotOver before after outcome = (IsOnSession before after (IsFull outcome) × (
 abbrev pub IsHalt : Seat → Seat → Result (Result PassAt Outcome) Busy → Type 0
 IsHalt before after (Ok (Ok pass)) = IsOver before after pass
 IsHalt before after (Ok (Err outcome)) = IsNotOver before after outcome
-IsHalt before after (Err busy) = after ≡ before
+IsHalt before after (Err busy) = IsKeptOut before after
 
 -- upkeep was done, or there was nothing to do, or memory was refused
 abbrev pub IsUpkeep : Outcome → Type 0

@@ -16,7 +16,7 @@ use Rattle.embedded.specs.declared.outcome.Outcome.TheVariants.{Done, Refused, N
 use Rattle.hub.specs.declared.hub.Busy.{Busy}
 use Rattle.shared_engine.specs.Named.{SessionAt}
 use Rattle.shared_engine.specs.Sessions.{Held, knowing, IsJournalOf}
-use Rattle.session_calls.specs.Calls.{HasNone, IsOnSession, IsRefusedBefore}
+use Rattle.session_calls.specs.Calls.{HasNone, IsKeptOut, IsOnSession, IsRefusedBefore}
 use Rattle.session_calls.specs.declared.seat.Seat.{Seat}
 
 -- what these units leave
@@ -49,6 +49,13 @@ pub record IsClosed (at_start : Bool) (before after : Seat) (outcome : Outcome) 
   pub left : after ≡ before
   pub told : outcome ≡ Refused NoTransaction
 
+-- the seat has a session, and what is asked for could be looked at, but others write: nothing has changed
+pub record IsKeptOutAt (at_start : Bool) (before after : Seat) : Type 0 where
+  pub session : SessionAt
+  pub there : before.session ≡ Some session
+  pub open : HasNoStart at_start session.held → ⊥
+  pub left : after ≡ before
+
 -- what is looked at: the database of the moment, and the session has seen the present journal; or the start was asked for and
 -- no transaction is open, and nothing has changed
 abbrev pub IsMoment : Bool → Held → Held → Result Database Outcome → Type 0
@@ -65,7 +72,7 @@ abbrev pub IsLook : Bool → (Database → Outcome → Type 0) → Type 0 → Se
 IsLook at_start Does Left before after (Ok outcome) =
     (IsOnSession before after (HasLooked at_start Does outcome) × (after.last ≡ before.last))
     ⊎ ((IsClosed at_start before after outcome ⊎ HasNone before after outcome) × Left)
-IsLook at_start Does Left before after (Err busy) = (after ≡ before) × Left
+IsLook at_start Does Left before after (Err busy) = IsKeptOutAt at_start before after × Left
 
 -- what $ORDER answers from this subscript on, one level below a key, which may stand there, was copied at a moment; or the
 -- subscript was refused before
@@ -95,7 +102,7 @@ HasHeld old new = IsJournalOf new.seen old × (new ≡ knowing new.seen old)
 -- the seat's session holds what all share; or there is none, or others write: then nothing has changed
 abbrev pub IsHold : Seat → Seat → Result Outcome Busy → Type 0
 IsHold before after (Ok outcome) = (IsOnSession before after HasHeld × (after.last ≡ before.last) × (outcome ≡ Done)) ⊎ HasNone before after outcome
-IsHold before after (Err busy) = after ≡ before
+IsHold before after (Err busy) = IsKeptOut before after
 
 -- a hold was ended, which changes nothing that is seen; where there is no session it is told so
 abbrev pub IsRelease : Seat → Seat → Result Outcome Busy → Type 0

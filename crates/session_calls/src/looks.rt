@@ -1,9 +1,9 @@
 //! Looks at the database of a moment, which are no commands: as it is now, or as it was when the open transaction began.
-ghost use Rattle.std.specs.Prelude.{◌≡◌, Ok, IfOk, IfSome, OnErr};
+ghost use Rattle.std.specs.Prelude.{◌≡◌, ⊥, Ok, IfOk, IfSome, OnErr};
 ghost use Rattle.std.specs.Option.{option_map};
 ghost use Rattle.collation.specs.Answers.{data_of};
 ghost use Rattle.embedded.specs.Looks.{IsLook as IsValueLook, IsOrder, IsQuery, IsWalked, nodes_left};
-ghost use Rattle.session_calls.specs.Looks.{IsLook, IsMoment, IsOrderLook, IsQueryLook, IsSeen, IsWalk};
+ghost use Rattle.session_calls.specs.Looks.{HasNoStart, IsKeptOutAt, IsLook, IsMoment, IsOrderLook, IsQueryLook, IsSeen, IsWalk};
 
 use crate::seat::Seat;
 use collation::Direction;
@@ -52,7 +52,7 @@ fn held(seat: &Seat, at_start: bool) -> Option<Snapshot<'_>>
 fn moment(session: &mut HubSession, at_start: bool) -> Result<Result<HubShare, Outcome>, Busy>
     ensures table { session.new.table ≡ session.old.table }
     ensures seen { IfOk result (λ seen. IsMoment at_start session.old.held session.new.held seen) }
-    ensures busy { OnErr result (session.new ≡ session.old) }
+    ensures busy { OnErr result ((HasNoStart at_start session.old.held → ⊥) × (session.new ≡ session.old)) }
 {
     if !at_start {
         return match session.present() {
@@ -72,7 +72,7 @@ fn moment(session: &mut HubSession, at_start: bool) -> Result<Result<HubShare, O
 // The same of a seat's session.
 fn seen(seat: &mut Seat, at_start: bool) -> Result<Result<HubShare, Outcome>, Busy>
     ensures seen { IfOk result (λ seen. IsSeen at_start seat.old seat.new seen) }
-    ensures busy { OnErr result (seat.new ≡ seat.old) }
+    ensures busy { OnErr result (IsKeptOutAt at_start seat.old seat.new) }
 {
     let Some(session) = &mut seat.session else {
         return Ok(Err(Outcome::NoEngine));

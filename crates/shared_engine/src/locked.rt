@@ -1,6 +1,6 @@
 //! What lies under the lock, but for the desk. Each step of a session is a method, whose contract says exactly what it
 //! does. It is given the desk lifted, and never waits.
-ghost use Rattle.std.specs.Prelude.{◌≡◌, ◌⊎◌, ◌<◌, ◌≤◌, ◌+◌, ◌-◌, ◌^◌, ◌∷◌, ◌++◌, ℕ, true, false, List, [], min, max, nat_lt, length, vec_len, take, None, Some, IfOk, IfErr, IsErrOf, IfSome, IsSome, OnOk, OnErr};
+ghost use Rattle.std.specs.Prelude.{◌≡◌, ◌⊎◌, ◌<◌, ◌≤◌, ◌+◌, ◌-◌, ◌^◌, ◌∷◌, ◌++◌, ℕ, true, false, List, [], min, max, nat_lt, length, vec_len, take, None, Some, IfOk, IfErr, IsErrOf, IfNone, IfSome, IsSome, OnOk, OnErr};
 ghost use Rattle.refusal.specs.declared.Refusal.{Refusal};
 ghost use Rattle.command.specs.Data.{data_refusal, data_reply};
 ghost use Rattle.globals.specs.Answering.{early_refusal, IsRuleOrMemory};
@@ -126,7 +126,8 @@ impl Locked {
         }
     }
 
-    /// Begins a session of a job that has none, once room is kept for its end. None where somebody has the job's seat.
+    /// Begins a session of a job that has none, once room is kept for its end. None where somebody has the job's seat,
+    /// though it has no session.
     ///
     /// Refusals, after which the same jobs have sessions: `BadJob` where the job has one; else `OutOfMemory`.
     pub fn open(
@@ -147,6 +148,7 @@ impl Locked {
         ensures common { OnOk result (self.new.core ≡ record self.old.core { ends = self.old.core.ends + 1 }) }
         ensures refused { OnErr result ((self.new.core ≡ self.old.core) × ((desk.new.knows.given ≡ desk.old.knows.given) × SameSessions self.old.seats self.new.seats)) }
         ensures cause { IfErr result (λ why. IfSome why (λ refusal. ((refusal ≡ Refusal.BadJob) × (has_session self.old.seats job ≡ true)) ⊎ ((refusal ≡ Refusal.OutOfMemory) × (has_session self.old.seats job ≡ false)))) }
+        ensures taken { IfErr result (λ why. IfNone why (has_session self.old.seats job ≡ false)) }
     {
         let mut pin = self.seats.lend(board, desk, job)?;
         let state = match begin(&mut self.core, alloc, job) {

@@ -1,5 +1,5 @@
 //! The seats of jobs that have no session.
-ghost use Rattle.std.specs.Prelude.{◌≡◌, ◌≢◌, ◌⊎◌, ◌<◌, ◌≤◌, ◌+◌, ◌-◌, [], true, false, length, IsOk, IfOk, IfErr, IfSome, OnOk, OnErr};
+ghost use Rattle.std.specs.Prelude.{◌≡◌, ◌≢◌, ◌⊎◌, ◌<◌, ◌≤◌, ◌+◌, ◌-◌, [], true, false, length, IsOk, IfOk, IfErr, IfNone, IfSome, OnOk, OnErr};
 ghost use Rattle.refusal.specs.declared.Refusal.{Refusal};
 ghost use Rattle.pin_board.specs.Views.{dealing};
 ghost use Rattle.shared_engine.specs.Engines.{AreInPlace, has_session, SessionIs, SameSessions, sessions_in};
@@ -108,6 +108,7 @@ impl Seats {
         ensures one_more { OnOk result (sessions_in self.new ≡ sessions_in self.old + 1) }
         ensures as_many { OnErr result (sessions_in self.new ≡ sessions_in self.old) }
         ensures cause { IfErr result (λ why. IfSome why (λ refusal. ((refusal ≡ Refusal.BadJob) × (has_session self.old job ≡ true)) ⊎ ((refusal ≡ Refusal.OutOfMemory) × (has_session self.old job ≡ false)))) }
+        ensures taken { IfErr result (λ why. IfNone why (has_session self.old job ≡ false)) }
     {
         let at = job.number() as usize - 1;
         let seat = match self.take_out(board, desk, job) {

@@ -44,8 +44,8 @@ pub within_number : (number : List ℕ) → is_canonic number ≡ true → lengt
 within_number number canonic fits = record { limits = at }
   where
     at : (refusal : Refusal) → IsNumberCause number refusal → refusal ≡ OutOfMemory
-    at refusal (inl cause) = (within_value number fits).limits refusal cause
-    at refusal (inr cause) = absurd (let clash : true ≡ false = sym canonic ∙ cause.1 in cc)
+    at refusal (inl cause) = absurd (let clash : true ≡ false = sym canonic ∙ cause.1 in cc)
+    at refusal (inr cause) = (within_value number fits).limits refusal cause.1
 
 pub within_no_name : IsWithin (λ refusal. IsNameCause [] refusal)
 within_no_name = record { limits = at }

@@ -62,9 +62,9 @@ IsMemory refusal = refusal ≡ OutOfMemory
 abbrev pub IsValueCause : List ℕ → Refusal → Type 0
 IsValueCause value refusal = IsMemory refusal ⊎ ((refusal ≡ ValueTooLong) × (most_value_bytes < length value))
 
--- as for a value, or the number isn't canonic
+-- the number isn't canonic; or it is, and the cause is that of a value, or memory was refused
 abbrev pub IsNumberCause : List ℕ → Refusal → Type 0
-IsNumberCause number refusal = IsValueCause number refusal ⊎ ((refusal ≡ BadLine) × (is_canonic number ≡ false))
+IsNumberCause number refusal = ((refusal ≡ BadLine) × (is_canonic number ≡ false)) ⊎ ((is_canonic number ≡ true) × IsValueCause number refusal)
 
 -- memory was refused, or there is a start, which is no name
 abbrev pub IsNameCause : List ℕ → Refusal → Type 0

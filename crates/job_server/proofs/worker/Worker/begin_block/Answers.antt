@@ -17,4 +17,4 @@ pub returns-clause-begun : goal.returns-clause-begun
 returns-clause-begun g c =
     let inside = running c.run.inside.replies.replies c.run.inside.sessions in
     let new = running c.note_reply.new.replies.replies c.do_line.new.sessions in
-    begun_where c.args.job c.args.line c.in_ok-reply.reply c.is_begun-begun.result c.args.run.now inside new c.run.view_is c.requires c.is_begun-begun.ensures c.in_ok-note_reply.ensures c.in_ok-reply.ensures
+    begun_where c.args.job c.args.line c.in_ok-reply.reply c.is_begun-begun.result c.args.run.now inside new c.run.view_is c.requires c.is_begun-begun.ensures.begun c.in_ok-note_reply.ensures c.in_ok-reply.ensures

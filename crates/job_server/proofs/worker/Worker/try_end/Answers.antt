@@ -25,4 +25,4 @@ returns g c =
     let inside = running c.run.inside.replies.replies c.run.inside.sessions in
     let new = running c.note_reply.new.replies.replies c.do_line.new.sessions in
     subst (λ (x : Running). AdvancesWithin c.args.job line line.next x new) c.run.view_is
-    (ended_within c.args.job line c.args.command c.in_ok-reply.reply inside new c.requires (c.is_restarted.ensures.kept c.if-is_restarted.false) (c.is_over-over.ensures c.if-over.false) c.in_ok-note_reply.ensures c.in_ok-reply.ensures)
+    (ended_within c.args.job line c.args.command c.in_ok-reply.reply inside new c.requires (c.is_restarted.ensures.kept c.if-is_restarted.false) (c.is_over-over.ensures.goes_on c.if-over.false) c.in_ok-note_reply.ensures c.in_ok-reply.ensures)
