@@ -1,6 +1,6 @@
 -- How a session ends, and what keeps memory small.
--- Read IsHalt, then IsUpkeep.
-use Rattle.std.specs.Prelude.{◌≡◌, ◌⊎◌, List, length, None, Some, Result, Ok, Err}
+-- Read IsHalt, then IsCollected and IsCheckpointed.
+use Rattle.std.specs.Prelude.{◌≡◌, ◌≤◌, ◌==◌, ◌⊎◌, ℕ, if◌then◌else◌, List, length, None, Some, Result, Ok, Err}
 use Rattle.refusal.specs.declared.Refusal.{Refusal}
 use Rattle.refusal.specs.declared.Refusal.TheVariants.{OutOfMemory}
 use Rattle.journal.specs.Kept.{HasNoNumber}
@@ -44,6 +44,14 @@ IsHalt before after (Ok (Ok pass)) = IsOver before after pass
 IsHalt before after (Ok (Err outcome)) = IsNotOver before after outcome
 IsHalt before after (Err busy) = IsKeptOut before after
 
--- upkeep was done, or there was nothing to do, or memory was refused
-abbrev pub IsUpkeep : Outcome → Type 0
-IsUpkeep outcome = (outcome ≡ Done) ⊎ ((outcome ≡ AtEnd) ⊎ (outcome ≡ Refused OutOfMemory))
+-- what a turn of the collector is told as, by how many nodes it looked at
+abbrev pub turn_outcome : ℕ → Outcome
+turn_outcome looked = if looked == 0 then AtEnd else Done
+
+-- some nodes were looked at, at most as many as asked for, and the outcome tells whether any was; or memory was refused
+abbrev pub IsCollected : ℕ → Outcome → Type 0
+IsCollected limit outcome = ((looked : ℕ) × (looked ≤ limit) × (outcome ≡ turn_outcome looked)) ⊎ (outcome ≡ Refused OutOfMemory)
+
+-- the journal's base was moved on as far as it may be, or memory was refused
+abbrev pub IsCheckpointed : Outcome → Type 0
+IsCheckpointed outcome = (outcome ≡ Done) ⊎ (outcome ≡ Refused OutOfMemory)

@@ -1,6 +1,6 @@
 //! What keeps memory small, and what is in its way.
 ghost use Rattle.std.specs.Prelude.{◌≡◌, Ok, IfOk, OnErr, OnOk};
-ghost use Rattle.session_calls.specs.Endings.{IsUpkeep};
+ghost use Rattle.session_calls.specs.Endings.{IsCheckpointed, IsCollected, turn_outcome as turn_outcome_spec};
 ghost use Rattle.session_calls.specs.Looks.{HasHeld, IsHold, IsRelease};
 
 use crate::seat::Seat;
@@ -54,17 +54,27 @@ pub fn release(seat: &mut Seat) -> Outcome
     }
 }
 
+// What a turn of the collector is told as, by how many nodes it looked at.
+fn turn_outcome(looked: usize) -> Outcome
+    ensures { result ≡ turn_outcome_spec looked }
+{
+    match looked {
+        0 => Outcome::AtEnd,
+        _ => Outcome::Done,
+    }
+}
+
 /// Lets the collector look at so many nodes, from where it stopped. No reply depends on it.
 ///
-/// Outcomes: `AtEnd` where it looked at none; `OutOfMemory`.
+/// Outcomes: `Done`; `AtEnd` where it looked at none, as it does where the limit is 0; `OutOfMemory`. `Busy` while others
+/// are at what all share.
 pub fn collect(seat: &mut Seat, limit: usize) -> Result<Outcome, Busy>
-    ensures done { IfOk result IsUpkeep }
+    ensures done { IfOk result (IsCollected limit) }
     ensures same { seat.new ≡ seat.old }
 {
     let _ = release(seat);
     match seat.hub.collect(limit) {
-        Ok(Ok(progress)) if progress.visited == 0 => Ok(Outcome::AtEnd),
-        Ok(Ok(_)) => Ok(Outcome::Done),
+        Ok(Ok(progress)) => Ok(turn_outcome(progress.visited)),
         Ok(Err(refusal)) => Ok(Outcome::Refused(refusal)),
         Err(Busy) => Err(Busy),
     }
@@ -73,9 +83,9 @@ pub fn collect(seat: &mut Seat, limit: usize) -> Result<Outcome, Busy>
 /// Lets the journal drop its units up to the least start of an open transaction, or all where none is open. No reply
 /// depends on it.
 ///
-/// Outcomes: `Done`; `OutOfMemory`.
+/// Outcomes: `Done`; `OutOfMemory`. `Busy` while others are at what all share.
 pub fn checkpoint(seat: &mut Seat) -> Result<Outcome, Busy>
-    ensures done { IfOk result IsUpkeep }
+    ensures done { IfOk result IsCheckpointed }
     ensures same { seat.new ≡ seat.old }
 {
     let _ = release(seat);

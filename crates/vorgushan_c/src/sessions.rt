@@ -2,7 +2,7 @@
 //! for a C programmer.
 ghost use Rattle.std.specs.Prelude.{◌≡◌, ◌⊎◌, ⊤, None, IfErr, IfOk};
 ghost use Rattle.session_calls.specs.Calls.{IsCall, IsNoCause};
-ghost use Rattle.session_calls.specs.Endings.{IsUpkeep};
+ghost use Rattle.session_calls.specs.Endings.{IsCheckpointed, IsCollected};
 ghost use Rattle.typed_calls.specs.Typed.{last_number, last_outcome};
 ghost use Rattle.vorgushan_c.specs.Sessions as spec;
 ghost use Rattle.vorgushan_c.specs.Sessions.{IsBegunAt, IsHaltCall, IsHubEnd, IsHubMade, IsNotBegun, IsOpenCall, IsSeatCalled, IsSeatPut, told_number};
@@ -205,7 +205,7 @@ fn act_of(act: u32) -> Command
 /// Outcomes: as of `session_calls::collect`; `NoEngine`.
 #[unsafe(no_mangle)]
 pub extern "C" fn vorgushan_s_collect(alloc: Global, session: &mut VgSession, limit: usize) -> u32
-    ensures { IsSeatCalled session.old.inside session.new.inside result ⊤ (λ before after answered. (after ≡ before) × IfOk answered IsUpkeep) }
+    ensures { IsSeatCalled session.old.inside session.new.inside result ⊤ (λ before after answered. (after ≡ before) × IfOk answered (IsCollected limit)) }
 {
     let Some(mut there) = session.take(alloc) else {
         return Outcome::NoEngine.number();
@@ -220,7 +220,7 @@ pub extern "C" fn vorgushan_s_collect(alloc: Global, session: &mut VgSession, li
 /// Outcomes: as of `session_calls::checkpoint`; `NoEngine`.
 #[unsafe(no_mangle)]
 pub extern "C" fn vorgushan_s_checkpoint(alloc: Global, session: &mut VgSession) -> u32
-    ensures { IsSeatCalled session.old.inside session.new.inside result ⊤ (λ before after answered. (after ≡ before) × IfOk answered IsUpkeep) }
+    ensures { IsSeatCalled session.old.inside session.new.inside result ⊤ (λ before after answered. (after ≡ before) × IfOk answered IsCheckpointed) }
 {
     let Some(mut there) = session.take(alloc) else {
         return Outcome::NoEngine.number();
