@@ -53,7 +53,7 @@ pub record IsClosed (at_start : Bool) (before after : Seat) (outcome : Outcome) 
 pub record IsKeptOutAt (at_start : Bool) (before after : Seat) : Type 0 where
   pub session : SessionAt
   pub there : before.session ≡ Some session
-  pub open : HasNoStart at_start session.held → ⊥
+  pub started : HasNoStart at_start session.held → ⊥
   pub left : after ≡ before
 
 -- what is looked at: the database of the moment, and the session has seen the present journal; or the start was asked for and
