@@ -333,7 +333,8 @@ static inline vg_outcome vg_list_next(vg_engine *engine, char *node, size_t node
 /* ---- The journal ---- */
 
 /* The next lines of vg_journal_next are those of the units after so many: 0 for all, as in a new engine, or what
- * vg_units tells for those that are still to come. */
+ * vg_units tells for those that are still to come. Give a number at which no transaction is open that took a LOCK: the
+ * lines that follow would begin it once more. Who runs the lines goes on by vg_journal_next alone. */
 static inline vg_outcome vg_journal_from(vg_engine *engine, uint64_t units) {
     return engine ? vorgushan_journal_from(engine, units) : (vg_outcome)VG_NO_ENGINE;
 }

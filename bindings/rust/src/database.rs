@@ -244,7 +244,9 @@ impl Database {
     }
 
     /// The next lines of [`journal_next`](Database::journal_next) are those of the units after so many: 0 for all, as
-    /// in a new database, or [`units`](Database::units) for those that are still to come.
+    /// in a new database, or [`units`](Database::units) for those that are still to come. Give a number at which no
+    /// transaction is open that took a LOCK: the lines that follow would begin it once more. Who runs the lines goes on
+    /// by `journal_next` alone.
     pub fn journal_from(&self, units: u64) -> Result<(), Error> {
         self.with(|engine| done(raw::vorgushan_journal_from(engine.raw(), units)))
     }
