@@ -1,5 +1,5 @@
 //! Looks at the database of a moment, which are no commands: as it is now, or as it was when the open transaction began.
-ghost use Rattle.std.specs.Prelude.{◌≡◌, ⊥, Ok, IfOk, IfSome, OnErr};
+ghost use Rattle.std.specs.Prelude.{◌≡◌, Ok, IfOk, IfSome, OnErr};
 ghost use Rattle.std.specs.Option.{option_map};
 ghost use Rattle.collation.specs.Answers.{data_of};
 ghost use Rattle.embedded.specs.Looks.{IsLook as IsValueLook, IsOrder, IsQuery, IsWalked, nodes_left};

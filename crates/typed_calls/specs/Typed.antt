@@ -62,7 +62,7 @@ IsMemory refusal = refusal ≡ OutOfMemory
 abbrev pub IsValueCause : List ℕ → Refusal → Type 0
 IsValueCause value refusal = IsMemory refusal ⊎ ((refusal ≡ ValueTooLong) × (most_value_bytes < length value))
 
--- the number isn't canonic; or it is, and the cause is that of a value, or memory was refused
+-- the number isn't canonic; or it is, and the cause is a value's
 abbrev pub IsNumberCause : List ℕ → Refusal → Type 0
 IsNumberCause number refusal = ((refusal ≡ BadLine) × (is_canonic number ≡ false)) ⊎ ((is_canonic number ≡ true) × IsValueCause number refusal)
 

@@ -18,3 +18,8 @@ returns-in-Ok-Err-clause-seen c =
       left = same_seat c.args.seat.now c.in-Some.session c.moment.new.session (search rules) (same_session _ _ c.moment.ensures.table m.1.1);
       told = m.1.0;
     })
+
+pub returns-in-Err-clause-busy : goal.returns-in-Err-clause-busy
+returns-in-Err-clause-busy c =
+    let b = c.in-Err.ensures.busy in
+    record { session = c.in-Some.session; there = search rules; started = b.0; left = same_seat c.args.seat.now c.in-Some.session c.moment.new.session (search rules) b.1 }
