@@ -54,7 +54,7 @@ fn is_taken_at(
     back: bool,
     number: u16,
 ) -> Result<bool, Refusal> {
-    let second = digit(back, (number / 100) as u8);
+    let second = digit(back, (number / 100 % 10) as u8);
     let third = digit(back, (number / 10 % 10) as u8);
     let last = digit(back, (number % 10) as u8);
     is_taken_out(alloc, stretches, &[b'A', first, second, third, last])
