@@ -36,6 +36,10 @@ pub trait Teller {
     /// Of all open jobs this was told, or of those that wait for each other in a circle: they have waited for a second.
     /// Input hasn't ended, and the run goes on.
     fn tell_standstill(&self);
+
+    /// Memory was refused where no reply could say so: no line is done any more, and the run ends once the call of the
+    /// reader comes back in which its thread may be.
+    fn tell_memory(&self);
 }
 
 struct Watch<'a, R, T> {
@@ -115,6 +119,9 @@ fn run_on_ring<R: Wait + Clock, W: Write, T: Teller>(
         other,
     };
     let outcome = run_live(alloc, listed, live, &mut arrived, writer, &watch, log);
+    if let Err(LiveFault::Memory) = &outcome {
+        teller.tell_memory();
+    }
     hall.close(rt);
     (outcome, arrived.into_ring())
 }

@@ -7,7 +7,7 @@ use crate::PROGRAM;
 use collation::Job;
 use job_core::JobCore;
 use listing::Counted;
-use live_server::{Live, LiveFault, Lived, Teller, relay_live, status_of};
+use live_server::{Live, LiveFault, Lived, relay_live, status_of};
 use loading::load_with;
 use program_front::{
     Keeping, ListingFile, MjobsArgs, Piped, Statistics, Ticker, keeping_of, print_fault,
@@ -20,9 +20,10 @@ use std::io;
 use std::io::{Read, Write};
 use std::rt::{Clock, Files};
 use std::sync::Wait;
+use std::sync::atomic::{AtomicBool, Ordering};
 use std::thread::Threads;
 
-// Tells on standard error of refused lines, where that is asked for, and of jobs that wait for ever.
+// Tells on standard error of refused lines, where that is asked for.
 struct Told<'a, P> {
     rt: &'a P,
     errors: bool,
@@ -48,6 +49,19 @@ impl<'a, P: Eprint + AllocGlobal> RunLog for Told<'a, P> {
     fn shown(&mut self, _core: &JobCore) {}
 
     fn ended(&mut self, _core: &JobCore, _is_whole: bool) {}
+}
+
+// Tells on standard error of jobs that wait for ever, and of memory that is refused where no reply says so, once.
+struct Teller<'a, P> {
+    rt: &'a P,
+    is_refused: AtomicBool,
+}
+
+impl<'a, P> Drop for Teller<'a, P> {
+    fn drop(self) {
+        let Teller { rt: _, is_refused } = self;
+        drop(is_refused);
+    }
 }
 
 // Whether the byte is a control character, or begins one of two bytes: U+0000 to U+001F, U+007F to U+009F.
@@ -96,7 +110,7 @@ fn print_wait(rt: &(impl Eprint + AllocGlobal), job: Job, line: &[u8], holder: O
     };
 }
 
-impl<'a, P: Eprint + AllocGlobal> Teller for Told<'a, P> {
+impl<'a, P: Eprint + AllocGlobal> live_server::Teller for Teller<'a, P> {
     fn tell_waits(&self, job: Job, line: &[u8], holder: Option<Job>) {
         match without_controls(self.rt.alloc(), line) {
             Ok(shown) => print_wait(self.rt, job, &shown, holder),
@@ -108,6 +122,11 @@ impl<'a, P: Eprint + AllocGlobal> Teller for Told<'a, P> {
         let _ = eprintln!(self.rt;
             "{PROGRAM}: these jobs wait for each other, so none of them goes on; lines of other jobs are still done"
         );
+    }
+
+    fn tell_memory(&self) {
+        self.is_refused.store(true, Ordering::SeqCst);
+        let _status = print_fault(self.rt, PROGRAM, LiveFault::Memory.text());
     }
 }
 
@@ -129,10 +148,17 @@ fn first_core(
     }
 }
 
-// Prints a fault.
-fn tell_fault<W>(rt: &impl Eprint, args: MjobsArgs, fault: LiveFault, output: &Piped<W>) {
+// Prints a fault, but for memory if that was told.
+fn tell_fault<W>(
+    rt: &impl Eprint,
+    args: MjobsArgs,
+    fault: LiveFault,
+    is_refused: bool,
+    output: &Piped<W>,
+) {
     match fault {
         LiveFault::Write => print_unwritten(rt, PROGRAM, fault.text(), args.names(), output),
+        LiveFault::Memory if is_refused => {}
         _ => {
             let _status = print_fault(rt, PROGRAM, fault.text());
         }
@@ -145,10 +171,11 @@ fn end_live<P: Files + Eprint + AllocGlobal, W: Write + Drop, F: Write + Drop>(
     rt: &P,
     args: MjobsArgs,
     lived: Lived<Piped<W>>,
+    is_refused: bool,
     keeping: Keeping<'_, F>,
 ) -> u8 {
     if let Err(fault) = &lived.outcome {
-        tell_fault(rt, args, *fault, lived.writer.inner());
+        tell_fault(rt, args, *fault, is_refused, lived.writer.inner());
     }
     let core = lived.live.core();
     if args.statistics {
@@ -182,7 +209,10 @@ fn run_live_from<
     match Live::new(rt.alloc(), core, args.upkeep) {
         Ok(live) => {
             let writer = Counted::new(Piped::new(io::writer(rt)));
-            let teller = Told { rt, errors: false };
+            let teller = Teller {
+                rt,
+                is_refused: AtomicBool::new(false),
+            };
             let log = Told {
                 rt,
                 errors: args.errors,
@@ -197,7 +227,8 @@ fn run_live_from<
                 &teller,
                 log,
             );
-            end_live(rt, args, lived, keeping)
+            let is_refused = teller.is_refused.load(Ordering::SeqCst);
+            end_live(rt, args, lived, is_refused, keeping)
         }
         Err(AllocError) => print_fault(rt, PROGRAM, LiveFault::Memory.text()),
     }
