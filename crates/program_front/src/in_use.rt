@@ -1,4 +1,4 @@
-//! Whether a file that is written at the end is one that is read, or printed to.
+//! Whether a file that is written at the end is one that is read, or printed to, and whether one that is read is.
 use crate::printing::path_of;
 use crate::words::{FileNames, NamePlace};
 use std::fs;
@@ -12,6 +12,10 @@ const JOURNAL_IN_USE: &str = "'--journal <JOURNAL>' cannot be a file that is rea
 // What is said where the listing would take the place of the script, the journal, or what is printed to.
 const SAVE_IN_USE: &str =
     "'--save <LISTING>' cannot be the script, the journal or a file that is printed to";
+
+// What is said where replies or faults would go into a file that is read.
+const READ_PRINTED_TO: &str =
+    "the script and '--load <LISTING>' cannot be files that are printed to";
 
 // Whether two names are there and the same. They are told apart by their bytes.
 fn is_same_name(arguments: &[Vec<u8>], one: Option<NamePlace>, other: Option<NamePlace>) -> bool {
@@ -80,6 +84,14 @@ fn is_printed_to(rt: &impl Files, kept: &Metadata) -> bool {
         || is_same_file(kept, &fs::metadata(rt, STANDARD_ERROR).ok())
 }
 
+// Whether this file, if it is there, is printed to. What is printed would be read as lines, without end.
+fn is_read_printed_to(rt: &impl Files, read: Option<Metadata>) -> bool {
+    match read {
+        Some(read) => is_printed_to(rt, &read),
+        None => false,
+    }
+}
+
 // Whether the file for the journal is there and is the script, the listing that is loaded, or what is printed to.
 fn is_journal_in_use(rt: &impl Files, arguments: &[Vec<u8>], names: FileNames) -> bool {
     match known_of(rt, arguments, names.journal) {
@@ -127,8 +139,8 @@ fn is_one_place(rt: &impl Files, arguments: &[Vec<u8>], names: FileNames) -> Opt
     Some(journal_name == save_name && one.dev() == other.dev() && one.ino() == other.ino())
 }
 
-/// Why a file that is written doesn't go with the others, if so: by whatever name, a link of any kind too. Where no
-/// script is named it is standard input. It is looked at once: what becomes of the names later isn't seen.
+/// Why a file that is written, printed to too, doesn't go with the others, if so: by whatever name, a link of any kind
+/// too. Where no script is named it is standard input. It is looked at once: what becomes of the names later isn't seen.
 pub(crate) fn file_conflict(
     rt: &impl Files,
     arguments: &[Vec<u8>],
@@ -140,6 +152,11 @@ pub(crate) fn file_conflict(
     let is_one = is_one_place(rt, arguments, names).unwrap_or(false);
     if is_one || is_save_in_use(rt, arguments, names) {
         return Some(SAVE_IN_USE);
+    }
+    if is_read_printed_to(rt, script_of(rt, arguments, names))
+        || is_read_printed_to(rt, known_of(rt, arguments, names.load))
+    {
+        return Some(READ_PRINTED_TO);
     }
     None
 }

@@ -275,7 +275,7 @@ pub fn mjobs_args_of(alloc: Global, arguments: &[Vec<u8>]) -> Result<MjobsArgs, 
 
 /// What the arguments of `mjobs` ask for, as `mjobs_args_of` answers, but live where standard input is typed and no file
 /// is named; or an error where the journal or the listing would take the place of a file that is read under another
-/// name, or as standard input, or is printed to.
+/// name, or as standard input, or is printed to; or where the script or the listing that is loaded is printed to.
 pub fn mjobs_args_with(
     rt: &(impl Files + AllocGlobal),
     arguments: &[Vec<u8>],

@@ -161,7 +161,8 @@ pub fn mrun_args_of(alloc: Global, arguments: &[Vec<u8>]) -> Result<MrunArgs, Er
 }
 
 /// What the arguments of `mrun` ask for, as `mrun_args_of` answers, or an error where the journal or the listing would
-/// take the place of a file that is read under another name, or as standard input, or is printed to.
+/// take the place of a file that is read under another name, or as standard input, or is printed to; or where the script
+/// or the listing that is loaded is printed to.
 pub fn mrun_args_with(
     rt: &(impl Files + AllocGlobal),
     arguments: &[Vec<u8>],
