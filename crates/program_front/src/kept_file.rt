@@ -78,6 +78,15 @@ fn open_as_it_is<P: Files>(rt: &P, path: &str) -> io::Result<P::File> {
     OpenOptions::new().write(true).open(rt, path)
 }
 
+// Opens such a file by a number behind those of the standard streams, where its copy is. The number of one that is closed
+// is free, and by it what is printed would go into the file.
+fn open_behind_streams<P: Files>(rt: &P, path: &str) -> io::Result<P::File> {
+    let file = open_as_it_is(rt, path)?;
+    let copy = file.try_clone()?;
+    drop(file);
+    Ok(copy)
+}
+
 // A new file beside this place, with its name: the place's with `.new-1` behind, or a greater digit where that is there.
 fn create_beside<P: Files + AllocGlobal>(
     rt: &P,
@@ -158,7 +167,7 @@ fn way_to<P: Files + AllocGlobal>(
     match fs::metadata(rt, path) {
         Ok(known) if known.is_dir() => Err(io::Error::from(ErrorKind::IsADirectory)),
         Ok(known) if known.is_file() => way_to_file(rt, path, journal),
-        Ok(_) => Ok(Way::Straight(open_as_it_is(rt, path)?)),
+        Ok(_) => Ok(Way::Straight(open_behind_streams(rt, path)?)),
         Err(why) if why.kind() == ErrorKind::NotFound => way_to_none(rt, path, journal),
         Err(why) => Err(why),
     }
