@@ -393,6 +393,42 @@ fn write_kept<'a, V: OrderedView, P: Files + Eprint + AllocGlobal, F: Write + Dr
     }
 }
 
+// Whether the text goes straight to where it is kept.
+fn is_straight<F>(kept: &Option<KeptPlace<'_, F>>) -> bool {
+    match kept {
+        Some(kept) => match &kept.way {
+            Way::Straight(_) => true,
+            Way::Anew(_) => false,
+        },
+        None => false,
+    }
+}
+
+// Writes one text and then the other, if they are kept. Where one can't be written whole no new file is left, a line
+// says why, and the exit status is answered.
+fn write_both<'a, V: OrderedView, P: Files + Eprint + AllocGlobal, F: Write + Drop>(
+    rt: &P,
+    program: &str,
+    one: Option<KeptPlace<'a, F>>,
+    other: Option<KeptPlace<'a, F>>,
+    journal: &Journal,
+    content: &V,
+) -> Result<(Option<Draft<'a>>, Option<Draft<'a>>), u8>
+    ensures { IfErr result (λ status. status ≡ FAULT_STATUS) }
+{
+    let first = match write_kept(rt, program, one, journal, content) {
+        Ok(draft) => draft,
+        Err(status) => return Err(status),
+    };
+    match write_kept(rt, program, other, journal, content) {
+        Ok(second) => Ok((first, second)),
+        Err(status) => {
+            remove_draft(rt, first);
+            Err(status)
+        }
+    }
+}
+
 // Removes the new file, if there is one.
 fn remove_draft(rt: &impl Files, draft: Option<Draft<'_>>) {
     if let Some(draft) = draft {
@@ -456,9 +492,9 @@ pub fn keeping_of<'a, P: Files + Eprint + AllocGlobal>(
 }
 
 impl<'a, F: Write + Drop> Keeping<'a, F> {
-    /// Writes the texts, each into a new file beside its place, but to devices and pipes straight. What lies in its
-    /// place stays as it was. Where one can't be written whole a line on standard error says why, no new file is left,
-    /// and the exit status is answered.
+    /// Writes the texts, each into a new file beside its place, but to devices and pipes straight, once what goes into a
+    /// new file is there; of two such the journal comes first. What lies in its place stays as it was. Where one can't
+    /// be written whole a line on standard error says why, no new file is left, and the exit status is answered.
     pub fn write<V: OrderedView, P: Files + Eprint + AllocGlobal>(
         self,
         rt: &P,
@@ -472,18 +508,15 @@ impl<'a, F: Write + Drop> Keeping<'a, F> {
             journal: journal_place,
             listing: listing_place,
         } = self;
-        let first = match write_kept(rt, program, journal_place, journal, content) {
-            Ok(draft) => draft,
-            Err(status) => return Err(status),
-        };
-        match write_kept(rt, program, listing_place, journal, content) {
-            Ok(listing) => Ok(Drafts {
-                journal: first,
-                listing,
-            }),
-            Err(status) => {
-                remove_draft(rt, first);
-                Err(status)
+        if is_straight(&journal_place) && !is_straight(&listing_place) {
+            match write_both(rt, program, listing_place, journal_place, journal, content) {
+                Ok((listing, journal)) => Ok(Drafts { journal, listing }),
+                Err(status) => Err(status),
+            }
+        } else {
+            match write_both(rt, program, journal_place, listing_place, journal, content) {
+                Ok((journal, listing)) => Ok(Drafts { journal, listing }),
+                Err(status) => Err(status),
             }
         }
     }
