@@ -3,7 +3,7 @@ use crate::printing::path_of;
 use crate::words::{FileNames, NamePlace};
 use std::fs;
 use std::fs::Metadata;
-use std::os::unix::fs::MetadataExt;
+use std::os::unix::fs::{FileTypeExt, MetadataExt};
 use std::rt::Files;
 
 // What is said where the journal would take the place of a file that is read or printed to.
@@ -62,10 +62,15 @@ fn script_of(rt: &impl Files, arguments: &[Vec<u8>], names: FileNames) -> Option
     }
 }
 
-// Whether these are one file that bytes are kept in. Devices and pipes keep none, so writing to them loses nothing.
+// Whether these are one file that bytes are kept in, or one pipe, whose reader would get one text behind the other.
+// Terminals and other devices may be several at once.
 fn is_same_file(kept: &Metadata, used: &Option<Metadata>) -> bool {
     match used {
-        Some(used) => kept.is_file() && kept.dev() == used.dev() && kept.ino() == used.ino(),
+        Some(used) => {
+            (kept.is_file() || kept.file_type().is_fifo())
+                && kept.dev() == used.dev()
+                && kept.ino() == used.ino()
+        }
         None => false,
     }
 }
@@ -78,10 +83,11 @@ pub(crate) fn are_one_file(rt: &impl Files, one: &str, other: &str) -> bool {
     }
 }
 
-// Whether replies or faults are printed to this file.
-fn is_printed_to(rt: &impl Files, kept: &Metadata) -> bool {
-    is_same_file(kept, &fs::metadata(rt, STANDARD_OUTPUT).ok())
-        || is_same_file(kept, &fs::metadata(rt, STANDARD_ERROR).ok())
+// Whether replies or faults are printed to this file, in which bytes are kept. Printing to a pipe loses none.
+fn is_printed_to(rt: &impl Files, known: &Metadata) -> bool {
+    known.is_file()
+        && (is_same_file(known, &fs::metadata(rt, STANDARD_OUTPUT).ok())
+            || is_same_file(known, &fs::metadata(rt, STANDARD_ERROR).ok()))
 }
 
 // Whether this file, if it is there, is printed to. What is printed would be read as lines, without end.
