@@ -262,7 +262,7 @@ fn begin_beside<P: Files + AllocGlobal>(rt: &P, place: &str) -> io::Result<(Stri
 // Why a write failed, as the file knows it.
 fn write_error<F>(file: &Counted<Piped<F>>) -> io::Error {
     match file.inner().failure() {
-        Some(kind) => io::Error::from(kind),
+        Some(why) => why,
         None => io::Error::new(ErrorKind::Other, "a write failed"),
     }
 }

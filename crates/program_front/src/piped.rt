@@ -7,13 +7,13 @@ ghost use Rattle.std.specs.IoError.{error_kind};
 use std::io;
 use std::io::{ErrorKind, Write};
 
-/// A writer, whether a write to it has failed since the pipe is closed: nobody reads what is written; and of what kind
-/// its last failure was.
+/// A writer, whether a write to it has failed since the pipe is closed: nobody reads what is written; and why the last
+/// write that failed did.
 #[derive(Drop)]
 pub struct Piped<W> {
     inner: W,
     closed: bool,
-    failure: Option<ErrorKind>,
+    failure: Option<io::Error>,
 }
 
 // Whether a write failed since nobody reads.
@@ -45,8 +45,8 @@ impl<W> Piped<W> {
         self.closed
     }
 
-    /// Of what kind the last write that failed was; none where no write has failed.
-    pub fn failure(&self) -> Option<ErrorKind>
+    /// Why the last write that failed did, as the system says it; none where no write has failed.
+    pub fn failure(&self) -> Option<io::Error>
         ensures { result ≡ self.now.failure }
     {
         self.failure
@@ -61,11 +61,11 @@ impl<W> Piped<W> {
 
     fn note_failure(&mut self, why: &io::Error)
         ensures inner { self.new.inner ≡ self.old.inner }
-        ensures failure { self.new.failure ≡ Some (error_kind why.now) }
+        ensures failure { self.new.failure ≡ Some why.now }
         ensures broken { error_kind why.now ≡ ErrorKind.BrokenPipe → self.new.closed ≡ true }
         ensures other { error_kind why.now ≢ ErrorKind.BrokenPipe → self.new.closed ≡ self.old.closed }
     {
-        self.failure = Some(why.kind());
+        self.failure = Some(*why);
         if is_broken_pipe(why) {
             self.closed = true;
         }
@@ -80,7 +80,7 @@ impl<W: Write> Write for Piped<W> {
         ensures bound { WritesAtMost result buf.now }
         ensures bytes { WriteAppends (W.contents self.old.inner) (W.contents self.new.inner) result buf.now }
         ensures written { OnOk result ((self.new.closed ≡ self.old.closed) × (self.new.failure ≡ self.old.failure)) }
-        ensures failed { IfErr result (λ why. self.new.failure ≡ Some (error_kind why)) }
+        ensures failed { IfErr result (λ why. self.new.failure ≡ Some why) }
         ensures broken { IfErr result (λ why. error_kind why ≡ ErrorKind.BrokenPipe → self.new.closed ≡ true) }
         ensures other { IfErr result (λ why. error_kind why ≢ ErrorKind.BrokenPipe → self.new.closed ≡ self.old.closed) }
     {

@@ -175,7 +175,7 @@ pub fn print_unwritten<W>(
         return;
     }
     let _ = match output.failure() {
-        Some(kind) => eprintln!(rt; "{program}: {fault}: {kind}"),
+        Some(why) => eprintln!(rt; "{program}: {fault}: {why}"),
         None => eprintln!(rt; "{program}: {fault}"),
     };
 }
