@@ -43,17 +43,17 @@ hub_made old now number made was none put = subst (λ (o : Option Seat). IsHubMa
     at (inr is) = inr is
 
 -- what came of a session in a seat of the same database
-pub open_come : (job : ℕ) (hub old now : Option Seat) (number : ℕ) (there made : Seat) → hub ≡ Some there → old ≡ None → made.hub.value ≡ there.hub.value → IsBegunAt job made now number ⊎ IsNotBegun now number → IsOpenCall job hub old now number
+pub open_come : (job : ℕ) (hub old now : Option Seat) (number : ℕ) (there made : Seat) → hub ≡ Some there → old ≡ None → made.hub.value ≡ there.hub.value → IsBegunAt job made now number ⊎ IsNotBegun job now number → IsOpenCall job hub old now number
 open_come job hub old now number there made has was same come =
     subst (λ (h : Option Seat). IsOpenCall job h old now number) (sym has) (subst (λ (o : Option Seat). IsOpenCall job (Some there) o now number) (sym was) (at come))
   where
-    at : IsBegunAt job made now number ⊎ IsNotBegun now number → IsBegunAt job there now number ⊎ IsNotBegun now number
+    at : IsBegunAt job made now number ⊎ IsNotBegun job now number → IsBegunAt job there now number ⊎ IsNotBegun job now number
     at (inl is) = inl (record { seat = is.seat; there = is.there; same = is.same ∙ same; opened = is.opened; told = is.told })
     at (inr is) = inr is
 
 -- a session was begun in a seat, which was put where none was
 pub begun_put : (job : ℕ) (mine before after : Seat) (done : Result (Unit {0}) Refusal) (u : Unit {0}) (now : Option Seat) (number : ℕ) → before ≡ mine → done ≡ Ok u → IsBegun job before after (Ok done) → now ≡ Some after
-    → number ≡ outcome_number Done → IsBegunAt job mine now number ⊎ IsNotBegun now number
+    → number ≡ outcome_number Done → IsBegunAt job mine now number ⊎ IsNotBegun job now number
 begun_put job mine before after done u now number was is begun there told =
     let b : IsBegun job before after (Ok (Ok u)) = subst (λ (d : Result (Unit {0}) Refusal). IsBegun job before after (Ok d)) is begun in
     inl (record { seat = after; there = there; same = (λ i. (b.0 i).value) ∙ (λ i. (was i).hub.value); opened = b.1; told = told })

@@ -1,8 +1,9 @@
 -- What an exported call does with the session that it is given.
 -- Read told_number, IsSeatCalled, IsSeatKeyCalled, then IsHubMade, IsOpenCall and IsHaltCall.
-use Rattle.std.specs.Prelude.{◌≡◌, ◌⊎◌, ℕ, ◌==◌, if◌then◌else◌, List, Option, Some, None, Result, Ok, Err}
+use Rattle.std.specs.Prelude.{◌≡◌, ◌⊎◌, ◌≤◌, ℕ, ◌==◌, if◌then◌else◌, List, Option, Some, None, Result, Ok, Err}
 use Rattle.std.specs.Option.{MatchOption}
 use Rattle.refusal.specs.declared.Refusal.TheVariants.{BadJob, OutOfMemory}
+use Rattle.collation.specs.Limits.{most_jobs}
 use Rattle.collation.specs.Reference.{Reference}
 use Rattle.command.specs.declared.access.Extent.{Extent}
 use Rattle.command.specs.declared.access.Extent.TheVariants.{All, Value, Below}
@@ -84,25 +85,26 @@ pub record IsBegunAt (job : ℕ) (hub : Seat) (now : Option Seat) (number : ℕ)
   pub opened : IsOpened job seat
   pub told : number ≡ outcome_number Done
 
--- it was refused, or others are at it: none is there
-abbrev pub IsNotBegun : Option Seat → ℕ → Type 0
-IsNotBegun now number =
-    (now ≡ None) × ((number ≡ outcome_number (Refused BadJob)) ⊎ ((number ≡ outcome_number (Refused OutOfMemory)) ⊎ (number ≡ busy_number)))
+-- it was refused, or it is a job's number and others are at it: none is there
+abbrev pub IsNotBegun : ℕ → Option Seat → ℕ → Type 0
+IsNotBegun job now number =
+    (now ≡ None)
+    × ((number ≡ outcome_number (Refused BadJob)) ⊎ ((number ≡ outcome_number (Refused OutOfMemory)) ⊎ ((1 ≤ job) × (job ≤ most_jobs) × (number ≡ busy_number))))
 
 -- a session of this job was begun where none was; where one is it stays; where there is no database that is told
 abbrev pub IsOpenCall : ℕ → Option Seat → Option Seat → Option Seat → ℕ → Type 0
 IsOpenCall job None None now number = (now ≡ None) × (number ≡ outcome_number NoEngine)
-IsOpenCall job (Some hub) None now number = IsBegunAt job hub now number ⊎ IsNotBegun now number
+IsOpenCall job (Some hub) None now number = IsBegunAt job hub now number ⊎ IsNotBegun job now number
 IsOpenCall job None (Some before) now number = (now ≡ Some before) × (number ≡ outcome_number EngineThere)
 IsOpenCall job (Some hub) (Some before) now number = (now ≡ Some before) × (number ≡ outcome_number EngineThere)
 
--- there was a session, and none is there now; or there is one still, and why is told; or others are at it, and nothing has changed
+-- there was a session, and none is there now; or why there is one still or was none is told; or others are at it, and the session stays
 abbrev pub IsHaltCall : Option Seat → Option Seat → ℕ → Type 0
 IsHaltCall None now number = (now ≡ None) × (number ≡ outcome_number NoEngine)
 IsHaltCall (Some before) now number =
     (((pass : PassAt) × (after : Seat) × IsOver before after pass) × (now ≡ None) × (number ≡ outcome_number Done))
     ⊎ (((after : Seat) × (outcome : Outcome) × (now ≡ Some after) × (number ≡ outcome_number outcome) × IsNotOver before after outcome)
-    ⊎ ((now ≡ Some before) × (number ≡ busy_number)))
+    ⊎ ((now ≡ Some before) × (before.session ≡ None → ⊥) × (number ≡ busy_number)))
 
 -- ---- numbers that stand for a choice
 

@@ -94,7 +94,7 @@ fn seat_beside(alloc: Global, hub: &Seat) -> Result<Box<Seat>, Refusal>
 fn put_begun(alloc: Global, session: &mut VgSession, mut seat: Box<Seat>, job: u64) -> u32
     requires none { session.old.inside ≡ None }
     requires empty { seat.value.session ≡ None }
-    ensures { IsBegunAt job seat.value session.new.inside result ⊎ IsNotBegun session.new.inside result }
+    ensures { IsBegunAt job seat.value session.new.inside result ⊎ IsNotBegun job session.new.inside result }
 {
     match seat.begin(alloc, job) {
         Ok(Ok(())) => {
