@@ -45,7 +45,7 @@ extern "C" {
 
 /* The version of this header: 10,000 times its first number, 100 times its second, and its third. vorgushan_version()
  * returns the library's. */
-#define VG_VERSION 100
+#define VG_VERSION 200
 
 /* A literal as the two arguments of a text: its bytes and its length, without the byte 0 at its end. */
 #define VG_TEXT(literal) (literal), (sizeof(literal) - 1)

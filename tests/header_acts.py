@@ -91,7 +91,7 @@ ACTS = [
     ("walk_of_all", "root ? root : &all, place,", "&all, place,"),
     ("checkpoint_not_taken", "? vorgushan_checkpoint(engine)", "? vorgushan_collect(engine, 0)"),
     ("listing_never_anew", "? vorgushan_list_from_start(engine)", "? vorgushan_collect(engine, 0)"),
-    ("version_of_another_header", "#define VG_VERSION 100", "#define VG_VERSION 101"),
+    ("version_of_another_header", "#define VG_VERSION 200", "#define VG_VERSION 201"),
 ]
 
 THREAD_ACTS = [

@@ -8,7 +8,7 @@ use std::ffi::c_void;
 use std::ptr::null_mut;
 
 /// The version of the header whose calls these are.
-pub(crate) const VERSION: u32 = 100;
+pub(crate) const VERSION: u32 = 200;
 
 /// The library's own outcomes that are told apart here; the refusals are in `error.rs`.
 pub(crate) mod outcome {

@@ -44,7 +44,7 @@ impl FileNames {
 }
 
 /// The version of both programs.
-pub(crate) const VERSION: &str = "0.1.0";
+pub(crate) const VERSION: &str = "0.2.0";
 
 /// What is said where a journal is asked for that would drop its beginning.
 pub(crate) const DROPPED: &str =

@@ -26,9 +26,9 @@ pub struct VgStatistics {
 /// The version of the library: 10,000 times its first number, 100 times its second, and its third.
 #[unsafe(no_mangle)]
 pub extern "C" fn vorgushan_version() -> u32
-    ensures { result ≡ 100 }
+    ensures { result ≡ 200 }
 {
-    100
+    200
 }
 
 /// Makes an engine, whose database is empty, where none is.
