@@ -19,8 +19,8 @@ use bstr::ByteSlice;
 use job_server::{JobsFault, Served, serve_text, status_of, write_served};
 use listing::{Counted, read_all};
 use program_front::{
-    Keeping, ListingFile, MjobsArgs, Piped, Progress, Statistics, Ticker, Workers, arguments_of,
-    keeping_of, look_at_input, mjobs_args_with, open_input, path_of, print_bad_name, print_fault,
+    Keeping, ListingFile, MjobsArgs, Piped, Progress, Statistics, Ticker, arguments_of, keeping_of,
+    look_at_input, mjobs_args_with, open_input, path_of, print_bad_name, print_fault,
     print_help_or_error, print_jobs_greeting, print_load_fault, print_no_transaction,
     print_refused, print_statistics, print_unwritten, read_listing,
 };
@@ -35,6 +35,7 @@ use std::{io, thread};
 
 mod live;
 mod patience;
+mod places;
 mod waiting;
 
 // The program's name, before what it prints on standard error.
@@ -64,13 +65,12 @@ fn print_all_refused(rt: &(impl Eprint + AllocGlobal), text: &[u8]) {
     }
 }
 
-// How many workers there are.
-fn count_workers(rt: &impl Threads, workers: Workers) -> usize {
-    let processors = match thread::available_parallelism(rt) {
+// How many processors there are, where that is known.
+fn count_processors(rt: &impl Threads) -> Option<usize> {
+    match thread::available_parallelism(rt) {
         Ok(processors) => Some(processors.get()),
         Err(_) => None,
-    };
-    workers.count(processors)
+    }
 }
 
 // Reads all input, and serves its jobs on the listing.
@@ -87,14 +87,16 @@ fn serve_from<P: Eprint + AllocGlobal + Clock + Threads + Wait + Sync, R: Read +
     }
     let mut ticker = Ticker::new(rt, PROGRAM, file.name, tells);
     let progress = if tells { Progress::new(rt) } else { None };
+    let processors = count_processors(rt);
+    let workers = args.workers.count(processors);
     let served = serve_text(
         rt,
         rt.alloc(),
         &file.text,
         &mut ticker,
         text,
-        count_workers(rt, args.workers),
-        &Patience::new(rt, progress),
+        workers,
+        &Patience::new(rt, progress, processors.unwrap_or(workers)),
     );
     ticker.clear();
     served

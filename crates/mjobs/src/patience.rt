@@ -1,5 +1,6 @@
 //! What `mjobs` does while its jobs go on.
 use crate::PROGRAM;
+use crate::places::Places;
 use crate::waiting::Waiting;
 use collation::Job;
 use journal_lines::write_lock;
@@ -41,12 +42,14 @@ fn tell_waiting(rt: &(impl Eprint + AllocGlobal), job: Job, command: &LockComman
 }
 
 /// Lets other threads go on, or time pass, between two tries of a LOCK; stops all jobs where one fails, or all wait; on
-/// a terminal it tells how many jobs are done.
+/// a terminal it tells how many jobs are done. As many jobs run at the same time as there are places: one that sleeps
+/// between two tries lets another run.
 pub(crate) struct Patience<'a, P> {
     rt: &'a P,
     // When it was made, where there is time.
     begun: Option<Instant>,
     progress: Option<Progress>,
+    places: Places,
     waiting: Mutex<Waiting>,
     // Whether `waiting` says that jobs are stopped. It is asked for each line, without that lock.
     is_stopped: AtomicBool,
@@ -58,6 +61,7 @@ impl<'a, P> Drop for Patience<'a, P> {
             rt: _,
             begun: _,
             progress: _,
+            places: _,
             waiting: _,
             is_stopped: _,
         } = self;
@@ -65,11 +69,12 @@ impl<'a, P> Drop for Patience<'a, P> {
 }
 
 impl<'a, P: Clock> Patience<'a, P> {
-    pub(crate) fn new(rt: &'a P, progress: Option<Progress>) -> Patience<'a, P> {
+    pub(crate) fn new(rt: &'a P, progress: Option<Progress>, places: usize) -> Patience<'a, P> {
         Patience {
             rt,
             begun: Instant::now(rt).ok(),
             progress,
+            places: Places::new(places),
             waiting: Mutex::new(Waiting::new()),
             is_stopped: AtomicBool::new(false),
         }
@@ -96,7 +101,9 @@ impl<'a, P: Clock + Eprint + AllocGlobal + Wait> Gate for Patience<'a, P> {
     }
 
     fn pause(&self, _job: Job, millis: u64) {
+        self.places.give(self.rt);
         thread::sleep(self.rt, Duration::from_millis(millis));
+        self.places.take(self.rt);
     }
 
     fn now(&self) -> u64 {
@@ -128,6 +135,7 @@ impl<'a, P: Clock + Eprint + AllocGlobal + Wait> Gate for Patience<'a, P> {
     }
 
     fn job_begun(&self) {
+        self.places.take(self.rt);
         self.waiting.lock(self.rt).note_begun();
     }
 
@@ -145,6 +153,7 @@ impl<'a, P: Clock + Eprint + AllocGlobal + Wait> Gate for Patience<'a, P> {
     }
 
     fn job_done(&self, done: u64, jobs: u64, lines: u64) {
+        self.places.give(self.rt);
         self.waiting.lock(self.rt).note_done(done);
         if let Some(progress) = &self.progress {
             tell_progress(self.rt, progress, done, jobs, lines);
