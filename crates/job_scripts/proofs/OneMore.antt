@@ -1,5 +1,5 @@
 -- Lines more, and the groups of all lines.
-use Rattle.std.proofs.Common.{◌≡◌, ℕ, zero, suc, ◌+◌, ◌<◌, Bool, true, false, not, cond, ◌||◌, eqb, List, [], ◌∷◌, ◌++◌, map, filter, length, get_or, set, refl, sym, ap, subst, ◌∙◌, arith, append-nil, length-append, true≢false, Result, Ok, Err, OnOk}
+use Rattle.std.proofs.Common.{◌≡◌, ℕ, zero, suc, ◌+◌, ◌<◌, Bool, true, false, not, cond, ◌||◌, eqb, List, [], ◌∷◌, ◌++◌, map, filter, length, get_or, set, refl, sym, ap, subst, ◌∙◌, arith, append-nil, true≢false, Result, Ok, Err, OnOk}
 use Rattle.std.specs.Prelude.{⊤, unwrap_or}
 use Rattle.std.proofs.Math.Numerals.{one-add}
 use Rattle.std.proofs.lemmas.List.{map-append, append_assoc}
@@ -48,7 +48,7 @@ has_none_without m (k ∷ ks) = by (eqb k m) refl (has_none_without m ks)
     by true h ih = ih
     by false h ih = ap (λ r. eqb m k || r) ih ∙ ap (λ b. b || false) (other_way k m h)
 
-abbrev Distinct : List ℕ → Type 0
+abbrev pub Distinct : List ℕ → Type 0
 Distinct [] = ⊤
 Distinct (n ∷ ns) = (has n ns ≡ false) × Distinct ns
 
@@ -60,11 +60,11 @@ distinct_without m (k ∷ ks) d = by (eqb k m) refl (distinct_without m ks d.1)
     by true h ih = ih
     by false h ih = (has_without k m ks h ∙ d.0, ih)
 
-firsts_distinct : (ns : List ℕ) → Distinct (firsts ns)
+pub firsts_distinct : (ns : List ℕ) → Distinct (firsts ns)
 firsts_distinct [] = tt
 firsts_distinct (m ∷ ms) = (has_none_without m (firsts ms), distinct_without m (firsts ms) (firsts_distinct ms))
 
-has_firsts : (n : ℕ) (ns : List ℕ) → has n (firsts ns) ≡ has n ns
+pub has_firsts : (n : ℕ) (ns : List ℕ) → has n (firsts ns) ≡ has n ns
 has_firsts n [] = refl
 has_firsts n (m ∷ ms) = by (eqb n m) refl (has_firsts n ms)
   where
@@ -72,7 +72,7 @@ has_firsts n (m ∷ ms) = by (eqb n m) refl (has_firsts n ms)
     by true h ih = refl
     by false h ih = has_without n m (firsts ms) h ∙ ih
 
-firsts_new : (ns : List ℕ) (n : ℕ) → has n (firsts ns) ≡ false → firsts (ns ++ n ∷ []) ≡ firsts ns ++ n ∷ []
+pub firsts_new : (ns : List ℕ) (n : ℕ) → has n (firsts ns) ≡ false → firsts (ns ++ n ∷ []) ≡ firsts ns ++ n ∷ []
 firsts_new [] n h = refl
 firsts_new (m ∷ ms) n h = by (eqb n m) refl (firsts_new ms n) h
   where
@@ -124,7 +124,7 @@ under_same n m lines ls u e =
 under_more : (n : ℕ) (lines ls : List (List ℕ)) → AreUnder n ls → lines_under n (lines ++ ls) ≡ lines_under n lines ++ ls
 under_more n lines ls u = filter-append (λ line. eqb (group_of line) n) lines ls ∙ ap (λ (t : List (List ℕ)). lines_under n lines ++ t) (all_of n ls u)
 
-none_under : (n : ℕ) (lines : List (List ℕ)) → has n (map group_of lines) ≡ false → lines_under n lines ≡ []
+pub none_under : (n : ℕ) (lines : List (List ℕ)) → has n (map group_of lines) ≡ false → lines_under n lines ≡ []
 none_under n [] h = refl
 none_under n (l ∷ ls) h = by (eqb n (group_of l)) refl (none_under n ls) h
   where

@@ -8,7 +8,7 @@ use Rattle.std.specs.List.{position_or_len}
 use Rattle.std.specs.Prelude.{unwrap_or}
 use Rattle.std.specs.Borrow.{Bor}
 use Rattle.job_scripts.specs.declared.lines.Script.{Script}
-use Rattle.job_scripts.specs.Groups.{all_lines, group_of, groups_of, job_at, firsts, lines_in, nonempty, numbers_in, shown}
+use Rattle.job_scripts.specs.Groups.{all_lines, group_of, job_at, firsts, lines_in, nonempty, numbers_in, shown}
 use Rattle.job_scripts.specs.laws.Numbered.{numbers_group}
 use Rattle.job_scripts.specs.Lines.{lent_lines}
 use Rattle.job_scripts.specs.SoFar.{extended, more, place_of, AreSoFar, ArePlaces, HaveGroup, IsPlaceOf}
@@ -30,7 +30,7 @@ pos_same n m (k ∷ ks) h = by (eqb n k) h (pos_same n m ks)
     by true g ih = refl
     by false g ih = ap (λ x. 1 + x) (ih g)
 
-pos_new : (n : ℕ) (ns : List ℕ) → has n ns ≡ false → position_or_len (eqb n) (ns ++ n ∷ []) ≡ length ns
+pub pos_new : (n : ℕ) (ns : List ℕ) → has n ns ≡ false → position_or_len (eqb n) (ns ++ n ∷ []) ≡ length ns
 pos_new n [] h = ap (λ b. cond (not b) (1 + 0) 0) (self_equal n)
 pos_new n (k ∷ ks) h = by (eqb n k) h (pos_new n ks)
   where

@@ -1,6 +1,6 @@
 -- Lines by job. Source: docs/CONCURRENCY.md, "Many jobs at the same time".
 -- Read groups_in, then groups_of, lines_under and firsts; the contract of scripts_of cites groups_in.
-use Rattle.std.specs.Prelude.{ℕ, not, List, [], ◌∷◌, ◌==◌, if◌then◌else◌, map, filter, length, unwrap_or, Option, None, Some}
+use Rattle.std.specs.Prelude.{◌≡◌, ℕ, not, List, [], ◌∷◌, ◌++◌, ◌==◌, if◌then◌else◌, map, filter, length, unwrap_or, Option, None, Some}
 use Rattle.bstr.specs.Text.{lines_of, without_terminator}
 use Rattle.script.specs.Line.{job_of_line}
 use Rattle.job_scripts.specs.declared.lines.Script.{Script}
@@ -59,3 +59,7 @@ shown s = record { job = s.job; lines = lent_lines s.lines.items }
 -- the groups' numbers
 abbrev pub numbers_in : List Group → List ℕ
 numbers_in groups = map (λ g. unwrap_or g.job 0) groups
+
+-- the groups of some lines and of those that follow them, put together: the groups of all
+abbrev pub AreJoined : List Group → List Group → List Group → Type 0
+AreJoined first second all = (lines more : List (List ℕ)) → first ≡ groups_of lines → second ≡ groups_of more → all ≡ groups_of (lines ++ more)

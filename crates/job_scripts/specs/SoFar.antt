@@ -1,5 +1,5 @@
 -- The groups of the lines so far. Read ArePlaces, IsPlaceOf, HaveGroup and AreSoFar; the contracts of grouping.rt cite them.
-use Rattle.std.specs.Prelude.{◌≡◌, ℕ, zero, suc, ◌+◌, ◌<◌, List, [], ◌∷◌, ◌++◌, ◌==◌, true, map, length, if◌then◌else◌, get_or}
+use Rattle.std.specs.Prelude.{◌≡◌, ℕ, zero, suc, ◌+◌, ◌<◌, List, [], ◌∷◌, ◌++◌, ◌==◌, true, map, length, if◌then◌else◌, get_or, unwrap_or}
 use Rattle.job_scripts.specs.declared.lines.Script.{Script}
 use Rattle.std.specs.List.{list_any, position_or_len}
 use Rattle.job_scripts.specs.Groups.{Group, firsts, group, group_of, shown, groups_of}
@@ -26,6 +26,16 @@ abbrev pub extended : ℕ → List (List ℕ) → List Group → List Group
 extended i lines [] = []
 extended zero lines (g ∷ gs) = more lines g ∷ gs
 extended (suc i) lines (g ∷ gs) = g ∷ extended i lines gs
+
+-- the groups, with a group's lines behind those under its number, or with the group behind all
+abbrev pub with_group : Group → List Group → List Group
+with_group g [] = g ∷ []
+with_group g (k ∷ ks) = if unwrap_or g.job 0 == unwrap_or k.job 0 then more g.lines k ∷ ks else k ∷ with_group g ks
+
+-- the same of groups, one after the other
+abbrev pub with_groups : List Group → List Group → List Group
+with_groups [] ks = ks
+with_groups (g ∷ gs) ks = with_groups gs (with_group g ks)
 
 -- the groups of lines have one under this number too, of no line where it is new
 abbrev pub HaveGroup : ℕ → List Group → List Group → Type 0

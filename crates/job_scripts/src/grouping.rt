@@ -14,14 +14,26 @@ const JOB_PLACES: usize = 4097;
 
 // The scripts so far, in order of their first lines, and for each number one more than the place of its script, or 0.
 #[derive(Drop)]
-struct Groups<'t> {
-    places: Vec<usize>,
-    scripts: Vec<Script<'t>>,
+pub(crate) struct Groups<'t> {
+    pub(crate) places: Vec<usize>,
+    pub(crate) scripts: Vec<Script<'t>>,
+}
+
+// No script yet.
+pub(crate) fn no_groups<'t>(alloc: Global) -> Result<Groups<'t>, AllocError>
+    ensures places { IfOk result (λ groups. ArePlaces groups.places.items (numbers_in (map shown groups.scripts.items))) }
+    ensures none { IfOk result (λ groups. groups.scripts.items ≡ []) }
+{
+    let places = Vec::from_elem(alloc, 0, JOB_PLACES)?;
+    Ok(Groups {
+        places,
+        scripts: Vec::new(alloc),
+    })
 }
 
 // A job's number, or 0 for none.
 #[tactic(auto, using(crate::specs::laws::Numbered::job_of_number))]
-fn number_of(job: &Option<Job>) -> usize
+pub(crate) fn number_of(job: &Option<Job>) -> usize
     ensures value { result ≡ unwrap_or job.now 0 }
     ensures job { job.now ≡ job_at result }
     ensures few { result < 4097 }
@@ -117,10 +129,7 @@ fn take_line<'t>(alloc: Global, groups: &mut Groups<'t>, line: &'t [u8]) -> Resu
 pub fn scripts_of(alloc: Global, text: &[u8]) -> Result<Vec<Script<'_>>, AllocError>
     ensures { IfOk result (λ scripts. map shown scripts.items ≡ groups_in text.now) }
 {
-    let mut groups = Groups {
-        places: Vec::from_elem(alloc, 0, JOB_PLACES)?,
-        scripts: Vec::new(alloc),
-    };
+    let mut groups = no_groups(alloc)?;
     'lines: for line in text.lines() {
         take_line(alloc, &mut groups, line)?;
     }

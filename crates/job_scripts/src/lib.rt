@@ -13,6 +13,7 @@
 
 pub use block::{Block, block_of, push_in_place};
 pub use grouping::scripts_of;
+pub use halves::{halves_of, joined};
 pub use lines::{Script, command_for, next_line, read_for, request_for};
 pub use replies::{Replies, RepliesMark};
 pub use report::{Report, write_reports};
@@ -20,6 +21,7 @@ pub use timeout::timeout_of;
 
 mod block;
 mod grouping;
+mod halves;
 mod lines;
 mod replies;
 mod report;

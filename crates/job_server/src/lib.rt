@@ -29,6 +29,7 @@
 //! | `worker.rt` | the lines of one job, and of one job after the other |
 //! | `load.rt` | the listing that is loaded before the first job |
 //! | `serving.rt` | the workers, the channels, the reports in order |
+//! | `sorting.rt` | the lines of a text by job, by several threads |
 //! | `run.rt` | bytes in, bytes out |
 //!
 //! Not promised: that jobs overlap, that a LOCK has its names at last, how often a block is done again.
@@ -37,6 +38,7 @@
 pub use fault::{JobsFault, ServerFault, Unserved, status_of};
 pub use run::{run_jobs, run_text, serve_text, write_served};
 pub use serving::{Served, serve};
+pub use sorting::scripts_by_halves;
 
 mod blocks;
 mod cursor;
@@ -50,5 +52,6 @@ mod replies;
 mod run;
 mod running;
 mod serving;
+mod sorting;
 mod turns;
 mod worker;

@@ -9,9 +9,10 @@ ghost use Rattle.job_server.specs.Faults.{IsJobsFault, IsOfWriting};
 ghost use Rattle.job_server.specs.Output.{ending, IsJobsOutput, Wrote, IsBegun};
 ghost use Rattle.job_server.specs.Texts.{IsServed};
 
+use crate::sorting::{LEAST_BYTES, halvings_for, scripts_by_halves};
 use crate::{JobsFault, Served, serve};
 use job_core::Core;
-use job_scripts::{Report, scripts_of, write_reports};
+use job_scripts::{Report, write_reports};
 use journal::Journal;
 use listing::{Counted, read_all, write_listing_after};
 use loading::{LoadLog, NoLog};
@@ -91,7 +92,7 @@ pub fn serve_text<R: Threads + Wait + Sync, L: LoadLog, G: Gate + Sync>(
     ensures unread { IsErrOf result JobsFault.Read → ⊥ }
     ensures unloaded { IfErr result (IsJobsFault listing.now) }
 {
-    let scripts = scripts_of(alloc, &text)?;
+    let scripts = scripts_by_halves(rt, alloc, &text, halvings_for(workers), LEAST_BYTES)?;
     let served = serve(rt, alloc, listing, log, scripts, workers, gate)?;
     let _journal = served.journal();
     Ok(served)

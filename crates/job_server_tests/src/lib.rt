@@ -17,3 +17,5 @@ mod load;
 mod meetings;
 #[cfg(test)]
 mod rows;
+#[cfg(test)]
+mod sorting;

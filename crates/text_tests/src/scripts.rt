@@ -2,8 +2,8 @@
 use collation::Job;
 use command::{Answer, Reply};
 use job_scripts::{
-    Replies, Report, Script, block_of, command_for, push_in_place, read_for, request_for,
-    scripts_of, timeout_of,
+    Replies, Report, Script, block_of, command_for, halves_of, joined, push_in_place, read_for,
+    request_for, scripts_of, timeout_of,
 };
 use refusal::Refusal;
 use script::Drafts;
@@ -68,6 +68,51 @@ fn lines_stand_by_job_in_order_of_first_lines(rt: HostRuntime) -> Result<(), Fai
     ];
     for &(text, want, lines) in rows {
         assert!(rt; are_by_job(rt.alloc(), text, want, lines)?, "{text}");
+    }
+    Ok(())
+}
+
+#[test]
+fn a_text_is_cut_behind_a_line(rt: HostRuntime) -> Result<(), Fail> {
+    let rows: &[(&str, &str, &str)] = &[
+        ("1 a\n2 b\n3 c\n", "1 a\n2 b\n", "3 c\n"),
+        ("1 a\r\n2", "1 a\r\n", "2"),
+        // the end stands just in the middle
+        ("1 a\n2 b", "1 a\n", "2 b"),
+        ("12\n345\n", "12\n345\n", ""),
+        ("123\n45\n", "123\n", "45\n"),
+        ("1 a\n2 bcdefgh", "1 a\n2 bcdefgh", ""),
+        ("", "", ""),
+    ];
+    for &(text, front, back) in rows {
+        let found = halves_of(text.as_bytes());
+        assert!(rt; found.0 == front.as_bytes(), "{text}");
+        assert!(rt; found.1 == back.as_bytes(), "{text}");
+    }
+    Ok(())
+}
+
+// Whether the lines of two texts, put together, are these by job.
+fn are_joined(alloc: Global, texts: (&str, &str), want: &str) -> Result<bool, AllocError> {
+    let first = scripts_of(alloc, texts.0.as_bytes())?;
+    let second = scripts_of(alloc, texts.1.as_bytes())?;
+    are_written(alloc, &joined(alloc, first, second)?, want)
+}
+
+#[test]
+fn lines_of_two_texts_stand_by_job(rt: HostRuntime) -> Result<(), Fail> {
+    let rows: &[((&str, &str), &str)] = &[
+        (("", ""), ""),
+        (("2 a\n", ""), "2:2 a\n"),
+        (("", "2 a\n1 b\n"), "2:2 a\n1:1 b\n"),
+        (("2 a\n1 b\n", "1 c\n2 d\n"), "2:2 a\n2 d\n1:1 b\n1 c\n"),
+        (
+            ("x\n4096 a\n", "7 b\n1 c\ny\n7 d\n4096 e\n"),
+            "0:x\ny\n4096:4096 a\n4096 e\n7:7 b\n7 d\n1:1 c\n",
+        ),
+    ];
+    for &(texts, want) in rows {
+        assert!(rt; are_joined(rt.alloc(), texts, want)?, "{want}");
     }
     Ok(())
 }

@@ -1,12 +1,12 @@
 use Rattle.std.proofs.Common.{rules}
 use Rattle.job_scripts.specs.Groups.{lines_in}
-use Rattle.job_scripts.proofs.Placing.{no_places, none_so_far, so_far_on}
+use Rattle.job_scripts.proofs.Placing.{none_so_far, so_far_on}
 use Rattle.job_scripts.proofs.grouping.scripts_of.Goals as goal
 
 pub lines-init : goal.lines-init
 lines-init c = record {
-  places = no_places c.in_ok-from_elem.field-0.items c.new.result.items (search rules) c.new.ensures.items;
-  so_far = none_so_far c.args.text.now c.into_iter-line-iterator.result c.new.result.items c.new.ensures.items (search rules);
+  places = c.in_ok-groups.ensures.places;
+  so_far = none_so_far c.args.text.now c.into_iter-line-iterator.result c.in_ok-groups.groups.scripts.items c.in_ok-groups.ensures.none (search rules);
 }
 
 pub lines-preserved : goal.lines-preserved
