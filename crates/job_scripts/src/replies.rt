@@ -130,6 +130,7 @@ impl Replies {
     /// isn't they stay.
     pub fn back_to(&mut self, mark: RepliesMark) -> bool
         requires { GoesOnFrom mark.replies self.old.replies }
+        ensures mine { mark.job ≡ self.old.job → result ≡ true }
         ensures back { result ≡ true → self.new ≡ mark }
         ensures stay { result ≡ false → self.new ≡ self.old }
     {

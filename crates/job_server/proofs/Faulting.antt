@@ -74,6 +74,15 @@ pub input_read : {T U : Type 0} (r : Result T JobsFault) (f : InputFault) → Is
 input_read (Ok x) f is w = absurd is
 input_read {T = T} (Err g) f is w = is_error f InputRead (input_reads f (sym is ∙ error_is {T = T} g Read w))
 
+input_memories : (f : InputFault) → fault_of_input f ≡ Memory → f ≡ InputMemory
+input_memories InputRead e = cc
+input_memories InputMemory e = refl
+
+-- a want of memory is that of the input
+pub input_memory : {T U : Type 0} (r : Result T JobsFault) (f : InputFault) → IsErrAnd r (λ g. g ≡ fault_of_input f) → IsErrOf r Memory → IsErrOf {T = U} (Err f) InputMemory
+input_memory (Ok x) f is w = absurd is
+input_memory {T = T} (Err g) f is w = is_error f InputMemory (input_memories f (sym is ∙ error_is {T = T} g Memory w))
+
 writing_reads : (f : JobsFault) → IsOfWriting f → f ≡ Read → ⊥
 writing_reads Read h e = absurd h
 writing_reads Write h e = cc

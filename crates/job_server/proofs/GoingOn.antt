@@ -11,7 +11,7 @@ use Rattle.journal.specs.Kept.{HasNoRoom}
 use Rattle.serial.specs.Interleaving.{Told}
 use Rattle.pin_board.specs.Slips.{IsBeginning}
 use Rattle.shared_engine.specs.Blocks.{IsNoRestart}
-use Rattle.shared_engine.specs.Engines.{OnOkThat}
+use Rattle.shared_engine.specs.Engines.{OnOkThat, OnOkNot}
 use Rattle.shared_engine.specs.Receipts.{Book}
 use Rattle.shared_engine.specs.Sessions.{Held, knowing}
 use Rattle.job_scripts.specs.Reports.{GoesOnFrom}
@@ -23,7 +23,7 @@ use Rattle.job_server.specs.declared.fault.ServerFault.{ServerFault}
 use Rattle.job_scripts.specs.Groups.{Group}
 use Rattle.job_server.specs.Served.{IsReport, HasRunAs, IsReportAt}
 use Rattle.job_server.specs.Steps.{Past, SessionsSoFar, sessions_so_far, HasDoneSteps, IsNoStep, IsReplied, IsShownBy, IsNoEnd, AreShown}
-use Rattle.job_server.specs.Telling.{IsNoCommit, EndsNone, IsUnblocked, IsDoneAs, Running, Serves, IsWithin, AreWithin, ServesWithin, Advances, AdvancesWithin, Reaches, ReachesWithin, Begins, WasOvertaken, IsBack}
+use Rattle.job_server.specs.Telling.{IsNoCommit, EndsNone, IsUnblocked, IsDoneAs, Running, Serves, IsWithin, AreWithin, ServesWithin, Advances, AdvancesWithin, Reaches, ReachesWithin, Begins, BeginsNone, WasOvertaken, IsBack}
 use Rattle.job_server.proofs.Stepped.{halt_stepped}
 use Rattle.job_server.proofs.Stepping.{had_untimed, between_same, no_steps, none_done, shows_other, call_steps, line_shown, shown_behind, shown_tried, tried_to, asks_once, other_no_end, command_no_end, refused_no_end}
 
@@ -170,6 +170,11 @@ pub begun_where : (job : ℕ) (line : Line) (reply : Reply) (found : Bool) (same
     → OnOkThat {E = ServerFault} (Ok found) (Begins job line same new)
 begun_where job line reply true same old new is asks found replied h = subst (λ (x : Running). Begins job line x new) is (begins job line reply old new asks (found refl) replied h)
 begun_where job line reply false same old new is asks found replied h = tt
+
+-- or doesn't
+pub unbegun_where : (reply : Reply) (found : Bool) (same old new : Running) → old ≡ same → (found ≡ false → reply ≢ AtLevel 1) → new.replies ≡ old.replies ++ reply ∷ [] → OnOkNot {E = ServerFault} (Ok found) (BeginsNone same new)
+unbegun_where reply true same old new is other replied = tt
+unbegun_where reply false same old new is other replied = subst (λ (x : Running). BeginsNone x new) is (reply, other refl, replied)
 
 -- the same behind a try
 pub begins_again : (job : ℕ) (line : Line) (old middle tried new : Running) → Asks job line.text.now Start → Begins job line old middle → IsBack job line.next.lines.now middle tried → new.sessions ≡ tried.sessions → new.replies ≡ middle.replies → Begins job line old new

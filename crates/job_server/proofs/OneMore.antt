@@ -1,5 +1,5 @@
 -- Lines that are gathered, one after the other.
-use Rattle.std.proofs.Common.{◌≡◌, ◌⊎◌, inl, inr, ℕ, ◌+◌, ◌<◌, true, List, [], ◌∷◌, ◌++◌, length, length-append, refl, sym, ap, ◌∙◌, subst, arith}
+use Rattle.std.proofs.Common.{◌≡◌, ◌⊎◌, inl, inr, ℕ, ◌+◌, ◌<◌, ◌≤◌, true, List, [], ◌∷◌, ◌++◌, length, length-append, refl, sym, ap, ◌∙◌, subst, arith}
 use Rattle.std.specs.Prelude.{Option, Some, None, take}
 use Rattle.std.specs.List.{All}
 use Rattle.std.proofs.lemmas.List.{map-append}
@@ -74,6 +74,12 @@ pub so_far_refused : (job : ℕ) (all before rest : List (List ℕ)) (line : Lis
 so_far_refused job all before rest line refusal most old new (room, gathered, none) next refused less is =
     so_far_one job all before rest line most old new (room, gathered, none) next (inl (refusal, refused, is))
     (ap (λ (x : Lines). length x.places + x.room) is ∙ omega (arith, length-append old.places (Some refusal ∷ []), room, less)) (ap (λ (x : Lines). x.served) is)
+
+-- the first line is one of so many
+pub few_first : (most limit : ℕ) (old new : Lines) → old ≡ lines_held [] [] [] most → length new.places + new.room ≡ length old.places + old.room → most ≤ limit → length new.places ≤ limit
+few_first most limit old new begun counted few =
+    let start : length old.places + old.room ≡ most = ap (λ (x : Lines). length x.places + x.room) begun ∙ omega arith in
+    omega (arith, counted, start, few)
 
 -- a SET more
 pub set_more : (key : Reference) (value : List ℕ) (old new : List DataCommand) → new ≡ old ++ Set key value ∷ [] → All IsSet old → All IsSet new

@@ -1,5 +1,5 @@
 -- What a run of many jobs writes. Source: docs/FORMATS.md, "Replies".
--- Read IsJobsOutput, Wrote and IsBegun; the contracts of run_text and run_jobs cite these.
+-- Read IsJobsOutput, Wrote, IsBegun and AreReplied; the contracts of run_text and run_jobs cite these.
 use Rattle.std.specs.Prelude.{◌≡◌, ◌⊎◌, ℕ, Bool, true, false, List, [], ◌++◌, Option, codes}
 use Rattle.std.specs.List.{list_any}
 use Rattle.std.specs.Io.KnownBytes.{Appends}
@@ -33,3 +33,11 @@ pub record Wrote (listing : List ℕ) (listed : Bool) (text : List ℕ) (refused
 -- nothing was written, or a beginning of such an output
 abbrev pub IsBegun : List ℕ → Bool → List ℕ → Option (List ℕ) → Option (List ℕ) → Type 0
 IsBegun listing listed text old new = (old ≡ new) ⊎ ((output : List ℕ) × (refused : Bool) × IsJobsOutput listing listed text output refused × WritesBeginning old new output)
+
+-- these replies were written, and something behind them
+abbrev pub HasReplied : List Answers → Option (List ℕ) → Option (List ℕ) → Type 0
+HasReplied reports old new = (behind : List ℕ) × Appends old new (reports_text reports ++ behind)
+
+-- nothing was written, or all replies of a text that was served, and something behind them
+abbrev pub AreReplied : List ℕ → List ℕ → Option (List ℕ) → Option (List ℕ) → Type 0
+AreReplied listing text old new = (old ≡ new) ⊎ ((reports : List Answers) × (units : List JournalUnit) × IsServed listing text reports units × HasReplied reports old new)

@@ -8,7 +8,7 @@ use Rattle.lock_name.specs.declared.lock.LockCommand.{LockCommand}
 use Rattle.command.specs.declared.request.Command.{Command}
 use Rattle.command.specs.declared.request.Command.TheVariants.{Lock as lock_command, Commit, Rollback, Restart, Halt}
 use Rattle.command.specs.declared.request.Reply.{Reply}
-use Rattle.command.specs.declared.request.Reply.TheVariants.{Finished, AtLevel, Restarted, Refused}
+use Rattle.command.specs.declared.request.Reply.TheVariants.{Finished, AtLevel, Committed, Restarted, Refused}
 use Rattle.journal.specs.declared.unit.Unit.{Unit as JournalUnit}
 use Rattle.serial.specs.Interleaving.{Told}
 use Rattle.serial.specs.Machine.{told_had}
@@ -152,15 +152,23 @@ pub record Begins (job : ℕ) (line : Line) (old new : Running) : Type 0 where
   pub replied : new.replies ≡ old.replies ++ AtLevel 1 ∷ []
   pub steps : HasDoneSteps (AreShown job (lent_lines line.next.lines.now) (line.text.now ∷ []) (AtLevel 1 ∷ [])) job old.sessions new.sessions
 
+-- a TSTART has begun no transaction, by its reply
+abbrev pub BeginsNone : Running → Running → Type 0
+BeginsNone old new = (reply : Reply) × (reply ≢ AtLevel 1) × (new.replies ≡ old.replies ++ reply ∷ [])
+
+-- a command has ended its transaction, by its reply
+abbrev pub EndsOne : Running → Running → Type 0
+EndsOne old new = (reply : Reply) × ((reply ≡ Committed) ⊎ (reply ≡ Finished)) × (new.replies ≡ old.replies ++ reply ∷ [])
+
 -- the command of this line began the transaction anew, and no reply was kept
 abbrev pub WasOvertaken : ℕ → List ℕ → Running → Running → Type 0
 WasOvertaken job line old new =
     (new.replies ≡ old.replies) × (command : Command) × Asks job line command × (restarts : ℕ) × HasDoneSteps (IsReplied command (Restarted restarts)) job old.sessions new.sessions
 
--- a line of a block was tried: it was done, and perhaps some of those behind it, up to this place; or it began the transaction anew
+-- a line of a block was tried: it was done, and perhaps some of those behind it, up to this place; or it ended the transaction; or began that anew
 abbrev pub HasTried : ℕ → Line → Tried → Running → Running → Type 0
 HasTried job line (Within behind) old new = AdvancesWithin job line behind old new
-HasTried job line (Over behind) old new = Advances job line behind old new
+HasTried job line (Over behind) old new = Advances job line behind old new × EndsOne old new
 HasTried job line Back old new = WasOvertaken job line.text.now old new
 
 -- these lines were tried, and the transaction began anew

@@ -4,9 +4,9 @@ ghost use Rattle.command.specs.declared.request.Command.{Command};
 ghost use Rattle.command.specs.declared.request.Reply.{Reply};
 ghost use Rattle.job_scripts.specs.Lines.{Asks};
 ghost use Rattle.job_scripts.specs.Reports.{GoesOnFrom};
-ghost use Rattle.shared_engine.specs.Engines.{OnOkThat};
+ghost use Rattle.shared_engine.specs.Engines.{OnOkThat, OnOkNot};
 ghost use Rattle.job_server.specs.Holding.{IsAskedAt};
-ghost use Rattle.job_server.specs.Telling.{Advances, Begins, Reaches, HasTried, IsBack, IsBackAt};
+ghost use Rattle.job_server.specs.Telling.{Advances, Begins, BeginsNone, Reaches, HasTried, IsBack, IsBackAt};
 
 use crate::ServerFault;
 use crate::cursor::{Cursor, Line};
@@ -63,6 +63,7 @@ impl<'a, B: BoardName, R: Wait, G: Gate> Worker<'a, B, R, G> {
         requires { Asks job line.text.now Command.Start }
         ensures passed { OnOk result (Advances job line.entry line.entry.next run.old run.new) }
         ensures begun { OnOkThat result (Begins job line.entry run.old run.new) }
+        ensures unbegun { OnOkNot result (BeginsNone run.old run.new) }
     {
         let reply = self.do_line(&mut run.sessions, job, line, Ok(Command::Start))?;
         let begun = is_begun(&reply);

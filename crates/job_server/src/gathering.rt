@@ -63,7 +63,8 @@ impl Way {
 
     // How many lines are done so, at most.
     fn most(self) -> usize
-        ensures { 1 ≤ result }
+        ensures some { 1 ≤ result }
+        ensures few { result ≤ WRITES_PER_HOLD }
     {
         match self {
             Way::Lone => WRITES_PER_HOLD,
@@ -211,7 +212,8 @@ pub(crate) fn gather<'b>(
 ) -> Result<Asked<'b>, ServerFault>
     requires asked { IsAsked line.text.now drafts.old job (Sentence.Access first) }
     requires sets { way ≡ Way.Sets → first ≡ DataSentence.Set }
-    ensures { IfOk result (λ asked. IsAskedAt job line.entry asked hold.new) }
+    ensures asked { IfOk result (λ asked. IsAskedAt job line.entry asked hold.new) }
+    ensures few { OnOk result (length hold.new.places ≤ WRITES_PER_HOLD) }
 {
     let most = way.most();
     hold.begin(alloc, most)?;

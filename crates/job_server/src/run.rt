@@ -6,7 +6,7 @@ ghost use Rattle.listing.specs.Bytes.{WritesBeginning, IsOneMore};
 ghost use Rattle.std.specs.List.{list_any};
 ghost use Rattle.job_scripts.specs.Reports.{reports_text, some_refused};
 ghost use Rattle.job_server.specs.Faults.{IsJobsFault, IsOfWriting};
-ghost use Rattle.job_server.specs.Output.{ending, IsJobsOutput, Wrote, IsBegun};
+ghost use Rattle.job_server.specs.Output.{ending, IsJobsOutput, Wrote, IsBegun, HasReplied, AreReplied};
 ghost use Rattle.job_server.specs.Texts.{IsServed};
 
 use crate::sorting::{LEAST_BYTES, halvings_for, scripts_by_halves};
@@ -35,6 +35,7 @@ fn write_ending<W: Write>(
     ensures ok { OnOk result (Appends (W.contents writer.old.inner) (W.contents writer.new.inner) (ending listed (after core.now.units initial).map)) }
     ensures err { OnErr result (WritesBeginning (W.contents writer.old.inner) (W.contents writer.new.inner) (ending listed (after core.now.units initial).map)) }
     ensures counted { IsErrOf result JobsFault.Write → IsOneMore writer.old.failures writer.new.failures }
+    ensures memory { IsErrOf result JobsFault.Memory → writer.new.failures ≡ writer.old.failures }
     ensures kind { IfErr result IsOfWriting }
 {
     if !listed {
@@ -101,7 +102,8 @@ pub fn serve_text<R: Threads + Wait + Sync, L: LoadLog, G: Gate + Sync>(
 /// Writes the replies of jobs that were served, then, where it is asked for, `--` and the listing of what their journal
 /// leaves.
 ///
-/// After a fault a beginning of that was written: `Write` only where a call of the writer failed, else `Memory`.
+/// After a fault a beginning of that was written: `Write` only where a call of the writer failed, else `Memory`, where
+/// memory for the listing was refused and all replies are written.
 pub fn write_served<W: Write>(
     alloc: Global,
     listed: bool,
@@ -111,6 +113,8 @@ pub fn write_served<W: Write>(
     ensures ok { OnOk result (Appends (W.contents writer.old.inner) (W.contents writer.new.inner) (reports_text served.now.reports.items ++ ending listed (after served.now.closed.core.units initial).map)) }
     ensures err { OnErr result (WritesBeginning (W.contents writer.old.inner) (W.contents writer.new.inner) (reports_text served.now.reports.items ++ ending listed (after served.now.closed.core.units initial).map)) }
     ensures counted { IsErrOf result JobsFault.Write → IsOneMore writer.old.failures writer.new.failures }
+    ensures memory { IsErrOf result JobsFault.Memory → writer.new.failures ≡ writer.old.failures }
+    ensures replies { IsErrOf result JobsFault.Memory → HasReplied served.now.reports.items (W.contents writer.old.inner) (W.contents writer.new.inner) }
     ensures kind { IfErr result IsOfWriting }
 {
     write_reports(served.reports.as_slice(), writer)?;
@@ -124,7 +128,8 @@ pub fn write_served<W: Write>(
 /// The replies show one run of the exact machine, as `serve` says; the listing is of the map that it leaves.
 ///
 /// After a fault a beginning of that was written: nothing but after `Write` and `Memory`, so nothing where the listing
-/// isn't loaded or jobs weren't served to their end; `Write` only where a call of the writer failed, and never `Read`.
+/// isn't loaded or jobs weren't served to their end, and after `Memory` nothing or all replies; `Write` only where a call
+/// of the writer failed, `Memory` only where none did, and never `Read`.
 pub fn run_text<R: Threads + Wait + Sync, W: Write, G: Gate + Sync>(
     rt: &R,
     alloc: Global,
@@ -140,6 +145,8 @@ pub fn run_text<R: Threads + Wait + Sync, W: Write, G: Gate + Sync>(
     ensures unloaded { IfErr result (IsJobsFault listing.now) }
     ensures nothing { IfErr result (λ fault. IsOfWriting fault ⊎ (W.contents writer.old.inner ≡ W.contents writer.new.inner)) }
     ensures counted { IsErrOf result JobsFault.Write → IsOneMore writer.old.failures writer.new.failures }
+    ensures memory { IsErrOf result JobsFault.Memory → writer.new.failures ≡ writer.old.failures }
+    ensures replies { IsErrOf result JobsFault.Memory → AreReplied listing.now text.items (W.contents writer.old.inner) (W.contents writer.new.inner) }
     ensures unread { IsErrOf result JobsFault.Read → ⊥ }
 {
     let served = serve_text(rt, alloc, listing, &mut NoLog, text, workers, gate)?;
@@ -150,7 +157,7 @@ pub fn run_text<R: Threads + Wait + Sync, W: Write, G: Gate + Sync>(
 /// Reads all input, and runs its jobs as `run_text` does, with the listing.
 ///
 /// After `Read`, which comes only where a call of the reader failed, nothing was done or written. `Write` comes only
-/// where a call of the writer failed.
+/// where a call of the writer failed, `Memory` only where no call did.
 pub fn run_jobs<R: Threads + Wait + Sync, I: Read, W: Write, G: Gate + Sync>(
     rt: &R,
     alloc: Global,
@@ -168,6 +175,10 @@ pub fn run_jobs<R: Threads + Wait + Sync, I: Read, W: Write, G: Gate + Sync>(
     ensures unloaded { IfErr result (IsJobsFault listing.now) }
     ensures nothing { IfErr result (λ fault. IsOfWriting fault ⊎ (W.contents writer.old.inner ≡ W.contents writer.new.inner)) }
     ensures counted { IsErrOf result JobsFault.Write → IsOneMore writer.old.failures writer.new.failures }
+    ensures memory { IsErrOf result JobsFault.Memory → writer.new.failures ≡ writer.old.failures }
+    ensures input { IsErrOf result JobsFault.Memory → reader.new.failures ≡ reader.old.failures }
+    ensures replies { IsErrOf result JobsFault.Memory → IfSome (I.remaining reader.old.inner)
+        (λ bytes. AreReplied listing.now bytes (W.contents writer.old.inner) (W.contents writer.new.inner)) }
     ensures read { IsErrOf result JobsFault.Read → IsOneMore reader.old.failures reader.new.failures }
 {
     let text = read_all(alloc, reader)?;

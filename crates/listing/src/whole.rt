@@ -25,12 +25,13 @@ pub enum InputFault {
 /// All that a reader gives.
 ///
 /// After a fault nothing is kept, nor are the pieces that were read: `Read` where a call of the reader failed, else
-/// `Memory`.
+/// `Memory`, where memory was refused.
 pub fn read_all<R: Read>(alloc: Global, reader: &mut Counted<R>) -> Result<Vec<u8>, InputFault>
     ensures all { IfOk result (λ text. IfSome (R.remaining reader.old.inner) (λ bytes. text.items ≡ bytes)) }
     ensures at_end { OnOk result (IsAtEnd (R.remaining reader.new.inner)) }
     ensures kept { OnOk result (reader.new.failures ≡ reader.old.failures) }
     ensures counted { IsErrOf result InputFault.Read → IsOneMore reader.old.failures reader.new.failures }
+    ensures memory { IsErrOf result InputFault.Memory → reader.new.failures ≡ reader.old.failures }
 {
     let mut text = Vec::new(alloc);
     let mut piece = [0; PIECE_BYTES];

@@ -1,7 +1,8 @@
 //! Jobs that live: lines are done as they come.
-ghost use Rattle.std.specs.Prelude.{◌≡◌, IfOk};
+ghost use Rattle.std.specs.Prelude.{◌≡◌, ◌≢◌, true, IfOk, OnErr};
 ghost use Rattle.std.specs.FinMap as finmap;
 ghost use Rattle.journal.specs.History.{initial, IsLegal};
+ghost use Rattle.loading.specs.Loaded.{IsLoaded};
 
 use crate::PROGRAM;
 use collation::Job;
@@ -136,6 +137,7 @@ fn first_core(
     file: &ListingFile<'_>,
     tells: bool,
 ) -> Result<JobCore, u8>
+    ensures loaded { IfOk result (λ core. IsLoaded file.now.text.items core.machine) }
     ensures legal { IfOk result (λ core. IsLegal core.machine.units initial) }
     ensures closed { IfOk result (λ core. core.machine.transactions ≡ finmap.empty) }
 {
@@ -173,7 +175,10 @@ fn end_live<P: Files + Eprint + AllocGlobal, W: Write + Drop, F: Write + Drop>(
     lived: Lived<Piped<W>>,
     is_refused: bool,
     keeping: Keeping<'_, F>,
-) -> u8 {
+) -> u8
+    ensures fault { OnErr lived.outcome (result ≡ 2) }
+    ensures refused { IfOk lived.outcome (λ outcome. outcome.refused ≡ true → result ≢ 0) }
+{
     if let Err(fault) = &lived.outcome {
         tell_fault(rt, args, *fault, is_refused, lived.writer.inner());
     }

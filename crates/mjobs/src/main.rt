@@ -13,6 +13,11 @@
 //! says which.
 #![tactic(auto)]
 
+ghost use Rattle.std.specs.Prelude.{◌≡◌, ◌≢◌, true, IfOk, IfSome};
+ghost use Rattle.std.specs.List.{list_any};
+ghost use Rattle.job_scripts.specs.Reports.{some_refused};
+ghost use Rattle.job_server.specs.Texts.{IsServed};
+
 use crate::live::run_live_on;
 use crate::patience::Patience;
 use bstr::ByteSlice;
@@ -80,7 +85,10 @@ fn serve_from<P: Eprint + AllocGlobal + Clock + Threads + Wait + Sync, R: Read +
     file: &ListingFile<'_>,
     tells: bool,
     input: R,
-) -> Result<Served, JobsFault> {
+) -> Result<Served, JobsFault>
+    ensures served { IfOk result (λ served. IfSome (R.remaining input)
+        (λ bytes. IsServed file.now.text.items bytes served.reports.items served.closed.core.units)) }
+{
     let text = read_all(rt.alloc(), &mut Counted::new(input))?;
     if args.errors {
         print_all_refused(rt, &text);
@@ -133,21 +141,34 @@ fn tell_no_transaction(rt: &impl Eprint, served: &Served) {
     }
 }
 
+// Writes what was served, and prints a fault. Answers whether a reply is a refusal.
+fn write_told<P: Print + Eprint + AllocGlobal>(
+    rt: &P,
+    args: MjobsArgs,
+    served: &Served,
+) -> Result<bool, JobsFault>
+    ensures { IfOk result (λ refused. refused ≡ list_any some_refused served.now.reports.items) }
+{
+    let mut writer = Counted::new(Piped::new(io::writer(rt)));
+    match write_served(rt.alloc(), args.listed, served, &mut writer) {
+        Ok(()) => Ok(served.refused()),
+        Err(fault) => {
+            tell_fault(rt, args, fault, writer.inner());
+            Err(fault)
+        }
+    }
+}
+
 // Writes what was served, prints a fault, keeps what is to be kept if all was written, and answers the exit status.
 fn write_and_tell<P: Files + Print + Eprint + AllocGlobal, F: Write + Drop>(
     rt: &P,
     args: MjobsArgs,
     served: &Served,
     keeping: Keeping<'_, F>,
-) -> u8 {
-    let mut writer = Counted::new(Piped::new(io::writer(rt)));
-    let outcome = match write_served(rt.alloc(), args.listed, served, &mut writer) {
-        Ok(()) => Ok(served.refused()),
-        Err(fault) => {
-            tell_fault(rt, args, fault, writer.inner());
-            Err(fault)
-        }
-    };
+) -> u8
+    ensures refused { list_any some_refused served.now.reports.items ≡ true → result ≢ 0 }
+{
+    let outcome = write_told(rt, args, served);
     let core = &served.closed.core;
     if args.statistics {
         let held = Statistics::of(

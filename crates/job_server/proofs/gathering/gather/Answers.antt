@@ -6,7 +6,7 @@ use Rattle.script.specs.declared.sentence.Sentence.{Sentence}
 use Rattle.shared_engine.specs.Holds.{Lines, IsSet}
 use Rattle.job_scripts.specs.Lines.{lent_lines}
 use Rattle.job_server.specs.declared.gathering.Front.{Front}
-use Rattle.job_server.proofs.OneMore.{AreSoFar, so_far_one, so_far_first, so_far_refused, first_refused, first_accepted, accepted_still, none_more}
+use Rattle.job_server.proofs.OneMore.{AreSoFar, so_far_one, so_far_first, so_far_refused, few_first, first_refused, first_accepted, accepted_still, none_more}
 use Rattle.job_server.proofs.gathering.gather.Goals.{in-Ok-Access+in_ok-push_asked-in-Ok-Access, in-Err}
 use Rattle.job_server.proofs.gathering.gather.Goals as goal
 
@@ -52,8 +52,11 @@ lines-preserved c =
           }
     ]
 
-pub returns-in-Some : goal.returns-in-Some
-returns-in-Some c =
+pub returns-in-Some-clause-asked : goal.returns-in-Some-clause-asked
+returns-in-Some-clause-asked c =
     let pushed = c.in_ok-push_asked.ensures in
     let text = c.args.line.text.now in
     first_refused c.args.job text c.most-most.result c.begin.new.self c.push_asked.new.hold c.first_refusal.result c.in-Some.refusal c.in_ok-begin.ensures.room (pushed.one text c.requires.asked) c.first_refusal.ensures c.in-Some.is
+
+pub returns-in-Some-clause-few : goal.returns-in-Some-clause-few
+returns-in-Some-clause-few c = few_first c.most-most.result _ c.begin.new.self c.push_asked.new.hold c.in_ok-begin.ensures.room c.in_ok-push_asked.ensures.counted c.most-most.ensures.few

@@ -35,3 +35,9 @@ returns-in_err-served-clause-unread g c = λ w. absurd (c.in_err-served.ensures.
 
 pub returns-in_err-write_served-clause-unread : goal.returns-in_err-write_served-clause-unread
 returns-in_err-write_served-clause-unread g c = writing_unread _ c.in_err-write_served.field-0.0 c.from_residual-in_err-write_served.ensures.1 c.in_err-write_served.ensures.kind
+
+pub returns-in_err-served-clause-replies : goal.returns-in_err-served-clause-replies
+returns-in_err-served-clause-replies g c = λ w. inl refl
+
+pub returns-in_err-write_served-clause-replies : goal.returns-in_err-write_served-clause-replies
+returns-in_err-write_served-clause-replies g c = λ w. inr (_, _, c.in_ok-served.ensures.served, c.in_err-write_served.ensures.replies (passed_on _ _ _ c.from_residual-in_err-write_served.ensures.1 w))

@@ -25,7 +25,7 @@ returns-in-Over-clause-over g c =
     let new = c.try_line.new.run in
     let tried : HasTried job line c.in_ok-behind.field-0 now new = subst (λ (x : Running). HasTried job line c.in_ok-behind.field-0 x new) c.read.ensures.same c.in_ok-behind.ensures in
     let on : HasTried job line (Over behind) now new = subst (λ (t : Tried). HasTried job line t now new) c.in-Over.is tried in
-    reaches_on job c.args.begin.lines.now c.lines.place line behind c.args.run.now now new c.lines.invariant.0 c.in-Some.ensures.first c.in-Some.ensures.fewer on
+    reaches_on job c.args.begin.lines.now c.lines.place line behind c.args.run.now now new c.lines.invariant.0 c.in-Some.ensures.first c.in-Some.ensures.fewer on.0
 
 pub returns-in-Back-clause-again : goal.returns-in-Back-clause-again
 returns-in-Back-clause-again g c =
