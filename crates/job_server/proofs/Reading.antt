@@ -14,7 +14,7 @@ begun_then (Err v) a b c x w y e h k = subst (λ (t : List ℕ). WritesBeginning
 
 -- the same of a want of memory for the next: the text stands whole, and something behind it
 pub whole_then : {T E : Type 0} (r : Result T E) (m : E) (a b c : Option (List ℕ)) (x w y : List ℕ) → x ≡ w → Appends a b x → OnErr r (WritesBeginning b c y) → IsErrOf r m → (behind : List ℕ) × Appends a c (w ++ behind)
-whole_then (Ok v) m a b c x w y e h k is = absurd is
+whole_then (Ok v) m a b c x w y e h k is = absurd (cc is)
 whole_then (Err v) m a b c x w y e h k is = (take k.count y, subst (λ (t : List ℕ). Appends a c (t ++ take k.count y)) e (Appends-more a b c x (take k.count y) h k.bytes))
 
 -- what holds of all that was read

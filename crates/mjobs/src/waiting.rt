@@ -93,7 +93,7 @@ impl Waiting {
         ensures again { mark.changes ≡ self.old.changes → mark.is_counted ≡ true → self.new.tried ≡ self.old.tried }
         ensures first { mark.changes ≡ self.old.changes → mark.is_counted ≡ false → self.new.tried ≡ min (self.old.tried + 1) (2 ^ 64 - 1) }
         ensures stopped { mark.changes ≡ self.old.changes → self.new.tried ≡ self.old.waiting → self.old.waiting + self.old.done ≡ self.old.begun → is_some self.new.stop ≡ true }
-        ensures kept { (self.new.tried ≢ self.old.waiting) ⊎ (self.old.waiting + self.old.done ≢ self.old.begun) → self.new.stop ≡ self.old.stop }
+        ensures kept { ((self.new.tried ≢ self.old.waiting) ⊎ (self.old.waiting + self.old.done ≢ self.old.begun)) → self.new.stop ≡ self.old.stop }
         ensures counted { (result.changes ≡ self.old.changes) × (mark.changes ≡ self.old.changes → result.is_counted ≡ true) }
     {
         if mark.changes != self.changes {
