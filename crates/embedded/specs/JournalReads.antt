@@ -38,12 +38,12 @@ IsNextRead (u ∷ us) before after result old new wanted =
     AreLinesCopied u us before after result old new wanted
     ⊎ ((AreLinesTooLong u before result old new wanted ⊎ IsLeft (RefusedCall OutOfMemory) result old new wanted) × (after ≡ before))
 
--- the same of a journal; or it has dropped the next unit, or memory to read it was refused, and that is told
+-- the same of a journal; or it has dropped the next unit, or has one, but memory to read it was refused, and that is told
 abbrev pub IsJournalRead : ℕ → List JournalUnit → Placed → Placed → Outcome → List ℕ → List ℕ → ℕ → Type 0
 IsJournalRead base units before after result old new wanted =
     ((before.number < length (take base units)) × IsLeft (RefusedCall Gone) result old new wanted × (after ≡ before))
     ⊎ (((length (take base units) ≤ before.number) × IsNextRead (drop before.number units) before after result old new wanted)
-    ⊎ (IsLeft (RefusedCall OutOfMemory) result old new wanted × (after ≡ before)))
+    ⊎ ((length (take base units) ≤ before.number) × (before.number < length units) × IsLeft (RefusedCall OutOfMemory) result old new wanted × (after ≡ before)))
 
 -- lines were copied, the place moved behind their units, and the machine, the last reply and the listing are as they were
 pub record IsJournalCall (before after : Embedded) (outcome : Outcome) (old new : List ℕ) (wanted : ℕ) : Type 0 where

@@ -65,7 +65,7 @@ fn copy_lines(
 }
 
 // The same of the units of a journal that are behind a place. Where none is there none is read.
-#[tactic(auto, using(crate::proofs::Ends::none_left))]
+#[tactic(auto, using(crate::proofs::Ends::none_left, crate::proofs::Ends::none_read))]
 fn copy_journal(
     journal: &Journal,
     place: &mut JournalPlace,

@@ -278,6 +278,7 @@ impl HubSession {
         ensures table { self.new.table ≡ self.old.table }
         ensures done { IfOk result (λ done. (units : List JournalUnit) × IsBeginning units self.old.held.seen × IsRolledBack done units self.new.held.seen self.old.held self.new.held) }
         ensures busy { OnErr result (self.new ≡ self.old) }
+        ensures took { OnErr result (self.old.held.state.took_lock ≡ true) }
     {
         if self.took_lock() {
             self.kept = None;

@@ -130,11 +130,13 @@ fn pass_units(units: &mut Units<'_>, count: u64) -> Result<(), AllocError>
 }
 
 /// The units of a journal behind the one of this number, read back one by one; none where it has dropped one of them.
-/// All units are read that it hasn't dropped, those before the number too.
+/// All units are read that it hasn't dropped, those before the number too, so it has to have as many.
 ///
-/// Where memory is refused for one of these there are none.
+/// Where memory is refused for one of these there are none; none is read where it has dropped one of them.
 pub fn units_behind(journal: &Journal, number: u64) -> Result<Option<Units<'_>>, AllocError>
-    ensures { IfOk result (λ found. MatchOption found (number < length (dropped journal.now)) (λ units. AreBehind number journal.now units)) }
+    requires { number ≤ length journal.now.units }
+    ensures found { IfOk result (λ found. MatchOption found (number < length (dropped journal.now)) (λ units. AreBehind number journal.now units)) }
+    ensures refused { OnErr result (length (dropped journal.now) ≤ number) }
 {
     let base = journal.base().number();
     if number < base {

@@ -433,7 +433,7 @@ fn finish<W: Write>(
 {
     take_counted(alloc, live, begun, writer, bell, log)?;
     settle(alloc, live, writer, bell, log)?;
-    let _done = halt_open(&mut live.script.core, live.script.jobs.as_slice());
+    halt_open(&mut live.script.core, live.script.jobs.as_slice());
     write_ending(alloc, listed, &mut live.script, writer)?;
     Ok(())
 }

@@ -10,7 +10,7 @@
 //! which.
 #![tactic(auto)]
 
-ghost use Rattle.std.specs.Prelude.{◌≡◌, IfOk};
+ghost use Rattle.std.specs.Prelude.{◌≡◌, ◌⊎◌, true, IfNone, IfOk, IfSome, OnErr, OnOk};
 ghost use Rattle.std.specs.FinMap as finmap;
 ghost use Rattle.journal.specs.History.{initial, IsLegal};
 ghost use Rattle.loading.specs.Loaded.{IsLoaded};
@@ -19,7 +19,7 @@ use job_core::JobCore;
 use listing::Counted;
 use loading::load_with;
 use program_front::{
-    Drafts, Keeping, ListingFile, MrunArgs, NamePlace, Piped, Ticker, arguments_of, keeping_of,
+    Drafts, FAULT_STATUS, Keeping, ListingFile, MrunArgs, Piped, Ticker, arguments_of, keeping_of,
     look_at_input, mrun_args_with, open_input, path_of, print_bad_name, print_fault,
     print_help_or_error, print_load_fault, print_unwritten, print_wanting, read_listing,
 };
@@ -49,8 +49,8 @@ struct Terminals {
     scripts: bool,
 }
 
-// The core of a listing, or the exit status where there is none.
-fn load_from(
+// The core of the listing that is asked for, a new one where none is; or the exit status where there is none.
+fn first_core(
     rt: &(impl Eprint + AllocGlobal + Clock),
     file: &ListingFile<'_>,
     tells: bool,
@@ -65,22 +65,6 @@ fn load_from(
     match loaded {
         Ok(core) => Ok(core),
         Err(fault) => Err(print_load_fault(rt, PROGRAM, file, fault)),
-    }
-}
-
-// The core of the listing that is asked for; a new one where none is.
-fn first_core(
-    rt: &(impl Files + Eprint + AllocGlobal + Clock),
-    arguments: &[Vec<u8>],
-    load: Option<NamePlace>,
-    tells: bool,
-) -> Result<JobCore, u8>
-    ensures legal { IfOk result (λ core. IsLegal core.machine.units initial) }
-    ensures closed { IfOk result (λ core. core.machine.transactions ≡ finmap.empty) }
-{
-    match read_listing(rt, PROGRAM, arguments, load) {
-        Ok(file) => load_from(rt, &file, tells),
-        Err(status) => Err(status),
     }
 }
 
@@ -112,7 +96,12 @@ fn status_after(
     rt: &(impl Files + Eprint),
     outcome: &Result<Outcome, Fault>,
     kept: Option<Result<Drafts<'_>, u8>>,
-) -> u8 {
+) -> u8
+    ensures fault { IfNone kept.entry (OnErr outcome.now (result ≡ FAULT_STATUS)) }
+    ensures refused { IfNone kept.entry (IfOk outcome.now (λ o. o.refused ≡ true → result ≡ 1)) }
+    ensures kept_fault { IfSome kept.entry (λ drafts. OnOk drafts (OnErr outcome.now (result ≡ FAULT_STATUS))) }
+    ensures kept_refused { IfSome kept.entry (λ drafts. OnOk drafts (IfOk outcome.now (λ o. o.refused ≡ true → (result ≡ 1) ⊎ (result ≡ FAULT_STATUS)))) }
+{
     match kept {
         Some(Ok(drafts)) => drafts.end(rt, PROGRAM, status_of(outcome)),
         Some(Err(status)) => status,
@@ -236,7 +225,13 @@ fn run_with_arguments(
         Ok(args) => args,
         Err(error) => return print_help_or_error(rt, PROGRAM, error),
     };
-    match first_core(rt, arguments, args.load, terminals.loads) {
+    let file = match read_listing(rt, PROGRAM, arguments, args.load) {
+        Ok(file) => file,
+        Err(status) => return status,
+    };
+    let first = first_core(rt, &file, terminals.loads);
+    drop(file);
+    match first {
         Ok(core) => run_on(rt, arguments, args, terminals, core),
         Err(status) => status,
     }

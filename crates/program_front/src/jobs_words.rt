@@ -1,5 +1,5 @@
 //! The words of `mjobs`.
-ghost use Rattle.std.specs.Prelude.{◌≡◌, ◌<◌, ◌≤◌, true, None, is_some, IfOk};
+ghost use Rattle.std.specs.Prelude.{◌≡◌, ◌<◌, ◌≤◌, ℕ, true, None, is_some, IfOk};
 
 use crate::in_use::{file_conflict, name_conflict};
 use crate::words::{
@@ -43,6 +43,7 @@ impl Workers {
     /// How many there are, where there are so many processors, or their number isn't known: at least one where it isn't
     /// asked for none.
     pub fn count(self, processors: Option<usize>) -> usize
+        ensures asked { (n : ℕ) → self ≡ Workers.Number n → result ≡ n }
         ensures some { self ≡ Workers.Processors → 0 < result }
         ensures most { self ≡ Workers.Processors → result ≤ MOST_WORKERS }
     {

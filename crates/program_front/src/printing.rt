@@ -1,5 +1,6 @@
 //! The arguments of the process, and what is printed of the program's own.
-ghost use Rattle.std.specs.Prelude.{◌≡◌};
+ghost use Rattle.std.specs.Prelude.{◌≡◌, ◌≢◌, ◌⊎◌};
+ghost use Rattle.clap.specs.Words.{kind_of};
 
 use crate::hints::{hint_of, listing_hint};
 use crate::listing_file::ListingFile;
@@ -322,13 +323,16 @@ fn print_wrong_words(rt: &(impl Eprint + AllocGlobal), program: &str, error: cla
     FAULT_STATUS
 }
 
-/// Prints help, the version or what is wrong with the words, and answers the exit status. Where nobody reads it, no
-/// line says so.
+/// Prints help, the version or what is wrong with the words, and answers the exit status: 0 only of help and the version.
+/// Where nobody reads it, no line says so.
 pub fn print_help_or_error(
     rt: &(impl Print + Eprint + AllocGlobal),
     program: &str,
     error: clap::Error,
-) -> u8 {
+) -> u8
+    ensures given { (result ≡ 0) ⊎ (result ≡ FAULT_STATUS) }
+    ensures wrong { kind_of error ≢ ErrorKind.DisplayHelp → kind_of error ≢ ErrorKind.DisplayVersion → result ≡ FAULT_STATUS }
+{
     if error.kind() == ErrorKind::OutOfMemory {
         return print_fault(rt, program, NO_MEMORY);
     }

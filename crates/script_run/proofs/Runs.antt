@@ -1,5 +1,5 @@
 -- Lines that were answered, one after the other.
-use Rattle.std.proofs.Common.{◌≡◌, ℕ, suc, ◌+◌, ◌-◌, ◌<◌, ◌≤◌, take, Bool, true, List, [], ◌∷◌, ◌++◌, map, length, drop, Option, Result, Ok, Err, inl, inr, refl, sym, ap, subst, ◌∙◌, append_assoc, arith, length-drop, drop-drop}
+use Rattle.std.proofs.Common.{◌≡◌, ℕ, suc, ◌+◌, ◌-◌, ◌<◌, ◌≤◌, take, Bool, true, List, [], ◌∷◌, ◌++◌, map, length, drop, Option, Result, Ok, Err, inl, inr, ◌⊎◌, refl, sym, ap, subst, ◌∙◌, append_assoc, arith, length-drop, drop-drop}
 use Rattle.std.proofs.lemmas.List.{append-nil, map-append}
 use Rattle.std.proofs.lemmas.Grind.{flat_map-append}
 use Rattle.collation.specs.Database.{Database}
@@ -7,6 +7,7 @@ use Rattle.command.specs.declared.request.Command.{Command}
 use Rattle.command.specs.declared.request.Reply.{Reply}
 use Rattle.command.specs.declared.request.Reply.TheVariants.{Refused}
 use Rattle.journal.specs.History.{initial, after as after_units}
+use Rattle.job_core.specs.Cores.{Cored}
 use Rattle.journal.specs.Story.{Machine}
 use Rattle.serial.specs.Machine.{run_of}
 use Rattle.serial.specs.Soundness.{IsGood}
@@ -26,7 +27,7 @@ use Rattle.script_run.specs.Lines.{nonempty_line, lines_of, has_no_end, AreLines
 use Rattle.script_run.specs.laws.Good.{answered-good}
 use Rattle.script_run.specs.laws.Cut.{end_of, first_line, no_end, joined_line, has_no_end-append, none_before, line_before, lines_before}
 use Rattle.serial.specs.Answers.{IsReplyDue, told_by}
-use Rattle.script_run.specs.Output.{Answer, IsAnswer, AreAnswers, left_by, exact_reply, exact_answers, ends_session, accepted_job, left_open, halts_of, left_at_end, text_of, with_reply, noted, ending}
+use Rattle.script_run.specs.Output.{Answer, IsAnswer, AreAnswers, AreHalted, left_by, exact_reply, exact_answers, ends_session, accepted_job, left_open, halts_of, left_at_end, text_of, with_reply, noted, ending}
 use Rattle.script_run.specs.laws.Outcomes.{noted-none, noted-one, noted-then}
 use Rattle.script_run.specs.Replies.{IsGathered, IsLost}
 use Rattle.script_run.specs.Runs.{Ran, Broke, RanFront, BrokeFront, RanEnd, BrokeEnd}
@@ -168,6 +169,11 @@ Ran-written a b p q w u o r j = record {
 -- lines were answered, and then no more came
 pub Ran-and-none : (ls : List (List ℕ)) (a b c : Script) (p q r : Option (List ℕ)) → Ran ls a b p q → Ran [] b c q r → Ran ls a c p r
 Ran-and-none ls a b c p q r h k = subst (λ (l : List (List ℕ)). Ran l a c p r) (append-nil ls) (Ran-then ls [] a b c p q r h k)
+
+-- no more is gathered where all was written, or nothing since
+pub few_left : (n : ℕ) (old new : List ℕ) → length old < n → (new ≡ []) ⊎ (new ≡ old) → length new < n
+few_left n old new few (inl none) = let e : length new ≡ 0 = ap (λ (t : List ℕ). length t) none in omega (arith, few, e)
+few_left n old new few (inr same) = let e : length new ≡ length old = ap (λ (t : List ℕ). length t) same in omega (arith, few, e)
 
 -- each line has the machine's reply, were there memory for all that is left
 pub exact-lines : (ls : List (List ℕ)) (s : Machine) → map (λ (x : Answer). x.0) (exact_answers ls s) ≡ ls
@@ -338,15 +344,20 @@ halted_nodes ls a b m p q h e = e ∙ (λ i. (after_units (run_of (halts_of (h.j
 halted-good : (ls : List (List ℕ)) (a b : Script) (p q : Option (List ℕ)) (h : Ran ls a b p q) → IsGood a.core.machine → IsGood (left_at_end h.answers a.jobs a.core.machine)
 halted-good ls a b p q h l = good_run (halts_of (left_open h.answers a.jobs)) (left_by h.answers a.core.machine) (subst IsGood h.machine (h.good l))
 
+-- the core as it was halted, which stays
+pub halted_still : (jobs : List ℕ) (s : Machine) (core same : Cored) → same ≡ core → AreHalted jobs s core.machine → AreHalted jobs s same.machine
+halted_still jobs s core same e h = subst (λ (k : Cored). AreHalted jobs s k.machine) (sym e) h
+
 -- and then the ending was written
 pub ended : (listed : Bool) (begun : List ℕ) (a b c : Script) (m : Database) (p q r : Option (List ℕ)) → Ran (nonempty_line begun) a b p q → m ≡ (after_units (run_of (halts_of b.jobs) b.core.machine).units initial).map → Appends q r (b.out.items ++ ending listed m)
-    → c.outcome ≡ b.outcome → RanEnd listed begun a c p r
-ended listed begun a b c m p q r h e w d = record {
+    → c.outcome ≡ b.outcome → AreHalted b.jobs b.core.machine c.core.machine → RanEnd listed begun a c p r
+ended listed begun a b c m p q r h e w d k = record {
   answers = h.answers;
   of_lines = h.of_lines;
   each = h.each;
   good = halted-good (nonempty_line begun) a b p q h;
   outcome = d ∙ h.outcome;
+  machine = subst (λ (jobs : List ℕ). AreHalted jobs (left_by h.answers a.core.machine) c.core.machine) h.jobs (subst (λ (s : Machine). AreHalted b.jobs s c.core.machine) h.machine k);
   written = subst (λ (d : Database). Appends p r ((a.out.items ++ text_of h.answers) ++ ending listed d)) (halted_nodes (nonempty_line begun) a b m p q h e)
       (Passes-Appends p q r _ _ (Passes-more p q (a.out.items ++ text_of h.answers) b.out.items (ending listed m) h.passes) w);
 }

@@ -18,8 +18,8 @@ use Rattle.script_run.specs.laws.Cut.{none_before, lines_before, lines_before_mo
 use Rattle.script_run.proofs.Exact.{exact_output}
 use Rattle.script_run.specs.laws.Outcomes.{noted-then}
 use Rattle.script_run.specs.declared.outcome.Outcome.{Outcome}
-use Rattle.script_run.specs.Output.{Answer, AreAnswers, left_by, exact_answers, left_open, halts_of, left_at_end, text_of, noted, outcome_of, ending, IsOutput, Wrote, IsBegun, HasAnsweredLines}
-use Rattle.script_run.specs.Runs.{RanFront, BrokeFront, RanEnd, BrokeEnd, HasRead}
+use Rattle.script_run.specs.Output.{Answer, AreAnswers, AreHalted, left_by, exact_answers, left_open, halts_of, left_at_end, text_of, noted, outcome_of, ending, IsOutput, Wrote, IsBegun, HasAnsweredLines}
+use Rattle.script_run.specs.Runs.{RanFront, BrokeFront, RanEnd, BrokeEnd, HasRead, HasLeft}
 use Rattle.script_run.specs.declared.answers.Script.{Script}
 use Rattle.listing.specs.laws.Bytes.{Appends-nothing, Appends-more, WritesBeginning-all, WritesBeginning-longer, WritesBeginning-then, Passes-Appends}
 use Rattle.script_run.specs.laws.Lines.{last_line}
@@ -224,6 +224,23 @@ wrote_all start listed (Some bytes) left left' old new last begun piece a b h r 
       output = output;
       exact = exact_output start listed bytes (text_of h.answers ++ end) b.outcome output;
       written = Appends-more old new last (text_of h.answers) end h.written e.written;
+    }
+
+-- and the core that is left is what the answers leave
+pub left_all : (start : Machine) (listed : Bool) (all left left' old new last : Option (List ℕ)) (begun piece : List ℕ) (a b : Script) → Stands start all left begun old new a → HasRead left left' piece → length piece ≡ 0 → RanEnd listed begun a b new last
+    → IfSome all (λ bytes. HasLeft start listed bytes b.core.machine old last)
+left_all start listed None left left' old new last begun piece a b h r none e = tt
+left_all start listed (Some bytes) left left' old new last begun piece a b h r none e =
+    let whole : List Answer = h.answers ++ e.answers in
+    let output = whole_output start listed bytes left left' old new begun piece a e.answers h r none e.of_lines e.each e.good in
+    let left-is : left_by e.answers a.core.machine ≡ left_by whole start = left-then start a.core.machine h.answers e.answers h.machine in
+    let open-is : left_open e.answers a.jobs ≡ left_open whole [] = open-then [] a.jobs h.answers e.answers h.jobs in
+    record {
+      answers = whole;
+      of_lines = output.of_lines;
+      each = output.each;
+      machine = subst (λ (jobs : List ℕ). AreHalted jobs (left_by whole start) b.core.machine) open-is (subst (λ (s : Machine). AreHalted (left_open e.answers a.jobs) s b.core.machine) left-is e.machine);
+      written = subst (Appends old last) output.written (Appends-more old new last (text_of h.answers) ((a.out.items ++ text_of e.answers) ++ ending listed (after (left_at_end e.answers a.jobs a.core.machine).units initial).map) h.written e.written);
     }
 
 -- a beginning of the last answer and of the ending was written

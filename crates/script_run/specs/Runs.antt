@@ -7,7 +7,7 @@ use Rattle.journal.specs.Story.{Machine}
 use Rattle.serial.specs.Soundness.{IsGood}
 use Rattle.listing.specs.Bytes.{WritesBeginning, WritesFront}
 use Rattle.script_run.specs.Lines.{nonempty_line, lines_of, AreLinesBefore}
-use Rattle.script_run.specs.Output.{Answer, AreAnswers, left_by, left_open, left_at_end, text_of, noted, ending, IsEndingFront}
+use Rattle.script_run.specs.Output.{Answer, AreAnswers, AreHalted, left_by, left_open, left_at_end, text_of, noted, ending, IsEndingFront}
 use Rattle.script_run.specs.declared.answers.Script.{Script}
 
 -- the lines were answered, one after the other, and each reply was written or is gathered
@@ -43,13 +43,14 @@ pub record BrokeFront (text : List ℕ) (old : Script) (before now : Option (Lis
   pub broke : Broke lines old before now
   pub split : (more : List ℕ) → lines_of (text ++ more) ≡ lines ++ lines_of (rest ++ more)
 
--- the last line was answered, the open jobs were halted, and all that was gathered and the ending were written
+-- the last line was answered, the open jobs were halted in the core that is left, and all that was gathered and the ending were written
 pub record RanEnd (listed : Bool) (line : List ℕ) (old new : Script) (before now : Option (List ℕ)) : Type 0 where
   pub answers : List Answer
   pub of_lines : map (λ a. a.0) answers ≡ nonempty_line line
   pub each : AreAnswers old.core.machine answers
   pub good : IsGood old.core.machine → IsGood (left_at_end answers old.jobs old.core.machine)
   pub outcome : new.outcome ≡ noted answers old.outcome
+  pub machine : AreHalted (left_open answers old.jobs) (left_by answers old.core.machine) new.core.machine
   pub written : Appends before now ((old.out.items ++ text_of answers) ++ ending listed (after (left_at_end answers old.jobs old.core.machine).units initial).map)
 
 -- a beginning of that was written
@@ -59,6 +60,14 @@ pub record BrokeEnd (listed : Bool) (line : List ℕ) (old : Script) (before now
   pub each : AreAnswers old.core.machine answers
   pub good : IsGood old.core.machine → IsGood (left_at_end answers old.jobs old.core.machine)
   pub begun : WritesBeginning before now ((old.out.items ++ text_of answers) ++ ending listed (after (left_at_end answers old.jobs old.core.machine).units initial).map)
+
+-- of all lines these are the answers that were written, with the ending; and the core that is left is what they leave, each open job then halted
+pub record HasLeft (start : Machine) (listed : Bool) (bytes : List ℕ) (left : Machine) (before now : Option (List ℕ)) : Type 0 where
+  pub answers : List Answer
+  pub of_lines : map (λ a. a.0) answers ≡ lines_of bytes
+  pub each : AreAnswers start answers
+  pub machine : AreHalted (left_open answers []) (left_by answers start) left
+  pub written : Appends before now (text_of answers ++ ending listed (after (left_at_end answers [] start).units initial).map)
 
 -- the piece was read, or there was none left
 pub record HasRead (old new : Option (List ℕ)) (piece : List ℕ) : Type 0 where

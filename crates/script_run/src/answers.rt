@@ -1,5 +1,6 @@
 //! A line, its reply's text, and what is due after it.
-ghost use Rattle.std.specs.Prelude.{◌≡◌, ◌∷◌, [], OnOk, OnErr, IsErrOf};
+ghost use Rattle.std.specs.Prelude.{◌≡◌, ◌⊎◌, ◌<◌, ◌∷◌, [], length, OnOk, OnErr, IsErrOf};
+ghost use Rattle.listing.specs.declared.counted.TheConstants.{GATHERED_BYTES};
 ghost use Rattle.listing.specs.Bytes.{IsOneMore, WritesBeginning};
 ghost use Rattle.script_run.specs.Lines.{nonempty_line};
 ghost use Rattle.script_run.specs.Runs.{Ran, Broke, Stopped};
@@ -43,6 +44,7 @@ fn run_line<W: Write>(
     log: &mut impl RunLog,
 ) -> Result<(), ListingFault>
     ensures ran { OnOk result (Ran (line.now ∷ []) script.old script.new (W.contents writer.old.inner) (W.contents writer.new.inner)) }
+    ensures few { OnOk result (length script.new.out.items < GATHERED_BYTES) }
     ensures err { OnErr result (Broke (line.now ∷ []) script.old (W.contents writer.old.inner) (W.contents writer.new.inner)) }
     ensures kept { OnOk result (writer.new.failures ≡ writer.old.failures) }
     ensures counted { IsErrOf result ListingFault.Write → IsOneMore writer.old.failures writer.new.failures }
@@ -55,7 +57,7 @@ fn run_line<W: Write>(
     Ok(())
 }
 
-// A line without its end. An empty one is counted and passed over.
+// A line without its end. An empty one is counted and passed over. No more stays gathered than is few enough.
 pub(crate) fn run_counted<W: Write>(
     alloc: Global,
     script: &mut Script,
@@ -64,6 +66,7 @@ pub(crate) fn run_counted<W: Write>(
     log: &mut impl RunLog,
 ) -> Result<(), ListingFault>
     ensures ran { OnOk result (Ran (nonempty_line line.now) script.old script.new (W.contents writer.old.inner) (W.contents writer.new.inner)) }
+    ensures few { length script.old.out.items < GATHERED_BYTES → OnOk result (length script.new.out.items < GATHERED_BYTES) }
     ensures err { OnErr result (Broke (nonempty_line line.now) script.old (W.contents writer.old.inner) (W.contents writer.new.inner)) }
     ensures counts { OnOk result (writer.new.failures ≡ writer.old.failures) }
     ensures counted { IsErrOf result ListingFault.Write → IsOneMore writer.old.failures writer.new.failures }
@@ -84,6 +87,7 @@ fn show<W: Write>(
     log: &mut impl RunLog,
 ) -> Result<(), WriteFault>
     ensures ran { OnOk result (Ran [] script.old script.new (W.contents writer.old.inner) (W.contents writer.new.inner)) }
+    ensures empty { OnOk result (script.new.out.items ≡ []) }
     ensures err { OnErr result (WritesBeginning (W.contents writer.old.inner) (W.contents writer.new.inner) script.old.out.items) }
     ensures kept { OnOk result (writer.new.failures ≡ writer.old.failures) }
     ensures counted { OnErr result (IsOneMore writer.old.failures writer.new.failures) }
@@ -101,6 +105,7 @@ fn tell_done<W: Write>(
     log: &mut impl RunLog,
 ) -> Result<(), WriteFault>
     ensures ran { OnOk result (Ran [] script.old script.new (W.contents writer.old.inner) (W.contents writer.new.inner)) }
+    ensures left { OnOk result ((script.new.out.items ≡ []) ⊎ (script.new.out.items ≡ script.old.out.items)) }
     ensures err { OnErr result (WritesBeginning (W.contents writer.old.inner) (W.contents writer.new.inner) script.old.out.items) }
     ensures kept { OnOk result (writer.new.failures ≡ writer.old.failures) }
     ensures counted { OnErr result (IsOneMore writer.old.failures writer.new.failures) }
@@ -121,6 +126,7 @@ pub(crate) fn run_kept<W: Write>(
     log: &mut impl RunLog,
 ) -> Result<(), ListingFault>
     ensures ran { OnOk result (Ran (nonempty_line line.now) script.old script.new (W.contents writer.old.inner) (W.contents writer.new.inner)) }
+    ensures few { length script.old.out.items < GATHERED_BYTES → OnOk result (length script.new.out.items < GATHERED_BYTES) }
     ensures err { OnErr result (Broke (nonempty_line line.now) script.old (W.contents writer.old.inner) (W.contents writer.new.inner)) }
     ensures counts { OnOk result (writer.new.failures ≡ writer.old.failures) }
     ensures counted { IsErrOf result ListingFault.Write → IsOneMore writer.old.failures writer.new.failures }

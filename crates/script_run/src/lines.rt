@@ -1,9 +1,10 @@
 //! Lines cut out of the pieces that are read.
-ghost use Rattle.std.specs.Prelude.{◌≡◌, ◌++◌, [], true, length, drop, ◌≤◌, vec_capacity, if◌then◌else◌, is_ok, IfOk, OnOk, OnErr, IsErrOf};
+ghost use Rattle.std.specs.Prelude.{◌≡◌, ◌++◌, [], true, length, drop, ◌≤◌, ◌<◌, vec_capacity, if◌then◌else◌, is_ok, IfOk, OnOk, OnErr, IsErrOf};
 ghost use Rattle.std.specs.Io.BufRead.{strip_last};
 ghost use Rattle.bstr.specs.Find.{IsFirstByte, is_byte};
 ghost use Rattle.collation.specs.Bytes as byte;
 ghost use Rattle.listing.specs.Bytes.{IsOneMore};
+ghost use Rattle.listing.specs.declared.counted.TheConstants.{GATHERED_BYTES};
 ghost use Rattle.script_run.specs.Lines.{nonempty_line, has_no_end};
 ghost use Rattle.script_run.specs.Runs.{Ran, Broke, RanFront, BrokeFront, Stopped, StoppedFront};
 
@@ -45,6 +46,7 @@ fn run_lines<W: Write>(
     ensures in_range { IfOk result (λ at. at ≤ length text.now) }
     ensures ran { IfOk result (λ at. RanFront text.now (drop at text.now) script.old script.new (W.contents writer.old.inner) (W.contents writer.new.inner)) }
     ensures begun { IfOk result (λ at. has_no_end (drop at text.now) ≡ true) }
+    ensures few { length script.old.out.items < GATHERED_BYTES → OnOk result (length script.new.out.items < GATHERED_BYTES) }
     ensures err { OnErr result (BrokeFront text.now script.old (W.contents writer.old.inner) (W.contents writer.new.inner)) }
     ensures counts { OnOk result (writer.new.failures ≡ writer.old.failures) }
     ensures counted { IsErrOf result ListingFault.Write → IsOneMore writer.old.failures writer.new.failures }
@@ -95,6 +97,7 @@ fn end_line<W: Write>(
 ) -> Result<(), ListingFault>
     ensures ran { OnOk result (Ran (nonempty_line (strip_last byte.carriage_return (begun.old.items ++ front.now))) script.old script.new (W.contents writer.old.inner) (W.contents writer.new.inner)) }
     ensures begun { OnOk result (begun.new.items ≡ []) }
+    ensures few { length script.old.out.items < GATHERED_BYTES → OnOk result (length script.new.out.items < GATHERED_BYTES) }
     ensures err { OnErr result (Broke (nonempty_line (strip_last byte.carriage_return (begun.old.items ++ front.now))) script.old (W.contents writer.old.inner) (W.contents writer.new.inner)) }
     ensures counts { OnOk result (writer.new.failures ≡ writer.old.failures) }
     ensures counted { IsErrOf result ListingFault.Write → IsOneMore writer.old.failures writer.new.failures }
@@ -122,6 +125,7 @@ pub(crate) fn run_piece<W: Write>(
     requires { has_no_end begun.old.items ≡ true }
     ensures ran { OnOk result (RanFront (begun.old.items ++ piece.now) begun.new.items script.old script.new (W.contents writer.old.inner) (W.contents writer.new.inner)) }
     ensures begun { OnOk result (has_no_end begun.new.items ≡ true) }
+    ensures few { length script.old.out.items < GATHERED_BYTES → OnOk result (length script.new.out.items < GATHERED_BYTES) }
     ensures err { OnErr result (BrokeFront (begun.old.items ++ piece.now) script.old (W.contents writer.old.inner) (W.contents writer.new.inner)) }
     ensures counts { OnOk result (writer.new.failures ≡ writer.old.failures) }
     ensures counted { IsErrOf result ListingFault.Write → IsOneMore writer.old.failures writer.new.failures }

@@ -1,16 +1,14 @@
 //! The jobs whose sessions are open, in order of their first accepted lines.
-ghost use Rattle.std.specs.Prelude.{◌≡◌, ◌==◌, true, [], ◌∷◌, IfOk};
-ghost use Rattle.command.specs.declared.request.Command.TheVariants.{Halt};
+ghost use Rattle.std.specs.Prelude.{◌≡◌, ◌==◌, [], ◌∷◌, IfOk};
 ghost use Rattle.std.specs.List.{list_any};
 ghost use Rattle.journal.specs.History.{initial, after};
-ghost use Rattle.serial.specs.Machine.{step_of, run_of};
+ghost use Rattle.serial.specs.Machine.{run_of};
 ghost use Rattle.script_run.specs.OpenJobs.{has_joined, without_job, open_after, is_open as is_open_spec};
 ghost use Rattle.script_run.specs.Output.{halts_of, AreHalted};
 
 use collation::Job;
-use command::{Command, Reply};
+use command::Command;
 use job_core::JobCore;
-use refusal::Refusal;
 use std::alloc::{AllocError, Global};
 use std::marker::Model;
 
@@ -95,33 +93,23 @@ impl OpenJobs {
     }
 }
 
-// The job's HALT. Answers whether it was done or refused by a full journal, and not for want of memory, which may refuse
-// only that of a job that isn't at work. Either way no node changes.
-#[tactic(auto, using(crate::proofs::Halts::same_nodes))]
-fn halt(core: &mut JobCore, job: Job) -> bool
-    ensures done { result ≡ true → core.new.machine ≡ step_of job Halt core.old.machine }
+// The job's HALT: done, or refused by a full journal, or, only of a job that isn't at work, for want of memory. Either way
+// no node changes.
+fn halt(core: &mut JobCore, job: Job)
     ensures halted { AreHalted (job ∷ []) core.old.machine core.new.machine }
     ensures nodes { (after core.new.machine.units initial).map ≡ (after core.old.machine.units initial).map }
 {
-    match core.step(job, Command::Halt) {
-        Reply::Refused(Refusal::OutOfMemory) => false,
-        _ => true,
-    }
+    drop(core.step(job, Command::Halt));
 }
 
 /// Halts these jobs in order. A job that is at work, which has an open transaction or a unit after its last HALT, is
-/// halted unless the journal is full; another whose HALT finds no memory is passed over. Answers whether none was. Either
-/// way the database is as all their HALTs leave it.
-pub fn halt_open(core: &mut JobCore, jobs: &[Job]) -> bool
-    ensures done { result ≡ true → core.new.machine ≡ run_of (halts_of jobs.now) core.old.machine }
+/// halted unless the journal is full; another whose HALT finds no memory is passed over. Either way the database is as all
+/// their HALTs leave it.
+pub fn halt_open(core: &mut JobCore, jobs: &[Job])
     ensures halted { AreHalted jobs.now core.old.machine core.new.machine }
     ensures nodes { (after core.new.machine.units initial).map ≡ (after (run_of (halts_of jobs.now) core.old.machine).units initial).map }
 {
-    let mut done = true;
     'jobs: for job in jobs {
-        if !halt(core, *job) {
-            done = false;
-        }
+        halt(core, *job);
     }
-    done
 }

@@ -8,7 +8,7 @@ ghost use Rattle.serial.specs.Soundness.{IsGood};
 ghost use Rattle.listing.specs.Bytes.{IsOneMore, WritesBeginning};
 ghost use Rattle.script_run.specs.Lines.{has_no_end};
 ghost use Rattle.script_run.specs.Output.{ending, outcome_of, Wrote, IsBegun, HasAnsweredLines, HasKept};
-ghost use Rattle.script_run.specs.Runs.{RanFront, BrokeFront, RanEnd, BrokeEnd, HasRead, StoppedFront, EndedFront, StoppedEnd, HasGathered};
+ghost use Rattle.script_run.specs.Runs.{RanFront, BrokeFront, RanEnd, BrokeEnd, HasRead, StoppedFront, EndedFront, StoppedEnd, HasGathered, HasLeft};
 
 use crate::answers::{Script, run_counted};
 use crate::lines::run_piece;
@@ -77,7 +77,7 @@ fn take_piece<W: Write>(
     Ok(())
 }
 
-/// Writes what is gathered, and the line before the listing with the listing, where it is asked for.
+/// Writes what is gathered, and the line before the listing with the listing, where it is asked for. The core stays.
 pub fn write_ending<W: Write>(
     alloc: Global,
     listed: bool,
@@ -87,6 +87,7 @@ pub fn write_ending<W: Write>(
     ensures ok { OnOk result (Appends (W.contents writer.old.inner) (W.contents writer.new.inner) (script.old.out.items ++ ending listed (after script.old.core.machine.units initial).map)) }
     ensures err { OnErr result (WritesBeginning (W.contents writer.old.inner) (W.contents writer.new.inner) (script.old.out.items ++ ending listed (after script.old.core.machine.units initial).map)) }
     ensures outcome { script.new.outcome ≡ script.old.outcome }
+    ensures core { script.new.core ≡ script.old.core }
     ensures counts { OnOk result (writer.new.failures ≡ writer.old.failures) }
     ensures counted { IsErrOf result ListingFault.Write → IsOneMore writer.old.failures writer.new.failures }
     ensures memory { IsErrOf result ListingFault.Memory → writer.new.failures ≡ writer.old.failures }
@@ -119,7 +120,7 @@ fn finish<W: Write>(
     ensures stopped { IsErrOf result ListingFault.Memory → StoppedEnd listed begun.now script.old script.new (W.contents writer.old.inner) (W.contents writer.new.inner) }
 {
     run_counted(alloc, script, begun, writer, log)?;
-    let _done = halt_open(&mut script.core, script.jobs.as_slice());
+    halt_open(&mut script.core, script.jobs.as_slice());
     write_ending(alloc, listed, script, writer)?;
     Ok(())
 }
@@ -139,6 +140,8 @@ fn run_pieces<R: Read, W: Write>(
     requires outcome { script.old.outcome ≡ outcome_of [] }
     ensures output { OnOk result (IfSome (R.remaining reader.old.inner)
         (λ bytes. Wrote script.old.core.machine listed bytes script.new.outcome (W.contents writer.old.inner) (W.contents writer.new.inner))) }
+    ensures left { OnOk result (IfSome (R.remaining reader.old.inner)
+        (λ bytes. HasLeft script.old.core.machine listed bytes script.new.core.machine (W.contents writer.old.inner) (W.contents writer.new.inner))) }
     ensures at_end { OnOk result (IsAtEnd (R.remaining reader.new.inner)) }
     ensures begun { OnErr result (IfSome (R.remaining reader.old.inner)
         (λ bytes. IsBegun script.old.core.machine listed bytes (W.contents writer.old.inner) (W.contents writer.new.inner))) }

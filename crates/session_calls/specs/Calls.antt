@@ -16,7 +16,7 @@ use Rattle.shared_engine.specs.Named.{SessionAt}
 use Rattle.shared_engine.specs.Sessions.{Held, held}
 use Rattle.shared_engine.specs.Blocks.{WasTried}
 use Rattle.typed_calls.specs.Typed.{IsWithin}
-use Rattle.session_calls.specs.Steps.{HasStepped}
+use Rattle.session_calls.specs.Steps.{HasStepped, NeedsTurn}
 use Rattle.session_calls.specs.declared.seat.Seat.{Seat}
 
 -- this is done with the session of a seat, which is of the same database still
@@ -59,18 +59,25 @@ HasNone before after outcome = (before.session ≡ None) × (after ≡ before) �
 abbrev pub IsKeptOut : Seat → Seat → Type 0
 IsKeptOut before after = (before.session ≡ None → ⊥) × (after ≡ before)
 
--- the command was done, where there is a session; or there is none, or others are at what all share: then nothing has changed
+-- the seat has a session, whose command needs a turn at what all share, but others are at that: nothing has changed
+pub record IsWaiting (command : Command) (before after : Seat) : Type 0 where
+  pub session : SessionAt
+  pub there : before.session ≡ Some session
+  pub turn : NeedsTurn command session.held
+  pub left : after ≡ before
+
+-- the command was done, where there is a session; or there is none, or others are at what it needs: then nothing has changed
 abbrev pub IsStepOrNone : Command → Seat → Seat → Result Bool Busy → Type 0
 IsStepOrNone command before after (Ok true) = IsStep command before after
 IsStepOrNone command before after (Ok false) = (before.session ≡ None) × (after ≡ before)
-IsStepOrNone command before after (Err busy) = IsKeptOut before after
+IsStepOrNone command before after (Err busy) = IsWaiting command before after
 
 -- the command was done within its limits, and this is told of its reply; or it was refused before, or there is no session; or it is within its
--- limits, and others are at what all share: then nothing has changed, and this is left
+-- limits, and others are at what it needs: then nothing has changed, and this is left
 abbrev pub IsCall : (Refusal → Type 0) → Command → (Option Answered → Outcome → Type 0) → Type 0 → Seat → Seat → Result Outcome Busy → Type 0
 IsCall IsCause command Tells Left before after (Ok outcome) =
     (IsStep command before after × Tells after.last outcome × IsWithin IsCause) ⊎ ((IsRefusedBefore IsCause before after outcome ⊎ HasNone before after outcome) × Left)
-IsCall IsCause command Tells Left before after (Err busy) = IsKeptOut before after × IsWithin IsCause × Left
+IsCall IsCause command Tells Left before after (Err busy) = IsWaiting command before after × IsWithin IsCause × Left
 
 -- one more try of a LOCK: it has its names; or it hasn't, and nothing was done; or it was refused
 abbrev pub HasTriedAgain : LockCommand → ℕ → Outcome → Held → Held → Type 0

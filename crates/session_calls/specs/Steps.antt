@@ -1,6 +1,6 @@
 -- What a command of a session does, and what it is answered.
--- Read HasStepped; what its parts mean is in Blocks.antt and Engines.antt of shared_engine.
-use Rattle.std.specs.Prelude.{◌≡◌, ◌⊎◌, ℕ, ◌+◌, ◌-◌, ◌≤◌, ◌<◌, Bool, List, Result, Ok, Err, OnOk}
+-- Read HasStepped and NeedsTurn; what the first's parts mean is in Blocks.antt and Engines.antt of shared_engine.
+use Rattle.std.specs.Prelude.{◌≡◌, ◌⊎◌, ⊤, ℕ, ◌+◌, ◌-◌, ◌≤◌, ◌<◌, Bool, true, List, Result, Ok, Err, OnOk}
 use Rattle.refusal.specs.declared.Refusal.{Refusal}
 use Rattle.refusal.specs.declared.Refusal.TheVariants.{BadLine, NoTransaction, LevelTooDeep}
 use Rattle.collation.specs.Limits.{most_levels}
@@ -83,3 +83,15 @@ HasStepped Restart reply old new =
 HasStepped Level reply old new = (reply ≡ Count old.state.level) × (new ≡ old)
 HasStepped Restarts reply old new = (reply ≡ Count old.state.restarts) × (new ≡ old)
 HasStepped Halt reply old new = (reply ≡ Refused BadLine) × (new ≡ old)
+
+-- the command needs what all share, at which others may be: all but those that the session answers by itself
+abbrev pub NeedsTurn : Command → Held → Type 0
+NeedsTurn (Access command) h = ⊤
+NeedsTurn (Lock command) h = ⊤
+NeedsTurn Start h = h.state.level ≡ 0
+NeedsTurn Commit h = h.state.level ≡ 1
+NeedsTurn Rollback h = (1 ≤ h.state.level) × (h.state.took_lock ≡ true)
+NeedsTurn Restart h = 1 ≤ h.state.level
+NeedsTurn Level h = ⊥
+NeedsTurn Restarts h = ⊥
+NeedsTurn Halt h = ⊥

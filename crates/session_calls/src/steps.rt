@@ -4,7 +4,7 @@ ghost use Rattle.command.specs.declared.request.Command.{Command};
 ghost use Rattle.command.specs.declared.request.Reply.TheVariants.{Answered};
 ghost use Rattle.serial.specs.Machine.{told_had};
 ghost use Rattle.shared_engine.specs.Blocks.{said};
-ghost use Rattle.session_calls.specs.Steps.{HasStepped};
+ghost use Rattle.session_calls.specs.Steps.{HasStepped, NeedsTurn};
 
 use command::{Answer, Command, DataCommand, Reply};
 use hub::{Busy, HubSession};
@@ -28,6 +28,7 @@ fn alone(session: &mut HubSession, command: DataCommand) -> Result<Reply, Busy>
     ensures table { session.new.table ≡ session.old.table }
     ensures done { IfOk result (λ reply. HasStepped (Command.Access command) reply session.old.held session.new.held) }
     ensures busy { OnErr result (session.new ≡ session.old) }
+    ensures turn { OnErr result (NeedsTurn (Command.Access command) session.old.held) }
 {
     match session.lone(command) {
         Ok(done) => Ok(reply_of(done)),
@@ -44,6 +45,7 @@ fn within(session: &mut HubSession, command: DataCommand) -> Result<Reply, Busy>
     ensures table { session.new.table ≡ session.old.table }
     ensures done { IfOk result (λ reply. HasStepped (Command.Access command) reply session.old.held session.new.held) }
     ensures busy { OnErr result (session.new ≡ session.old) }
+    ensures turn { OnErr result (NeedsTurn (Command.Access command) session.old.held) }
 {
     match session.read(command) {
         Ok(done) => Ok(reply_of(done)),
@@ -59,6 +61,7 @@ fn access(session: &mut HubSession, command: DataCommand) -> Result<Reply, Busy>
     ensures table { session.new.table ≡ session.old.table }
     ensures done { IfOk result (λ reply. HasStepped (Command.Access command) reply session.old.held session.new.held) }
     ensures busy { OnErr result (session.new ≡ session.old) }
+    ensures turn { OnErr result (NeedsTurn (Command.Access command) session.old.held) }
 {
     if session.tlevel() == 0 {
         alone(session, command)
@@ -82,6 +85,7 @@ fn lock(session: &mut HubSession, command: &LockCommand) -> Result<Reply, Busy>
     ensures table { session.new.table ≡ session.old.table }
     ensures done { IfOk result (λ reply. HasStepped (Command.Lock command.now) reply session.old.held session.new.held) }
     ensures busy { OnErr result (session.new ≡ session.old) }
+    ensures turn { OnErr result (NeedsTurn (Command.Lock command.now) session.old.held) }
 {
     match session.lock(command) {
         Ok(Ok(had)) => Ok(reply_of_lock(command, had)),
@@ -96,6 +100,7 @@ fn begin(session: &mut HubSession) -> Result<Reply, Busy>
     ensures table { session.new.table ≡ session.old.table }
     ensures done { IfOk result (λ reply. HasStepped Command.Start reply session.old.held session.new.held) }
     ensures busy { OnErr result (session.new ≡ session.old) }
+    ensures turn { OnErr result (NeedsTurn Command.Start session.old.held) }
 {
     match session.tstart() {
         Ok(()) => Ok(Reply::AtLevel(1)),
@@ -120,6 +125,7 @@ fn start(session: &mut HubSession) -> Result<Reply, Busy>
     ensures table { session.new.table ≡ session.old.table }
     ensures done { IfOk result (λ reply. HasStepped Command.Start reply session.old.held session.new.held) }
     ensures busy { OnErr result (session.new ≡ session.old) }
+    ensures turn { OnErr result (NeedsTurn Command.Start session.old.held) }
 {
     if session.tlevel() == 0 {
         begin(session)
@@ -134,6 +140,7 @@ fn close(session: &mut HubSession) -> Result<Reply, Busy>
     ensures table { session.new.table ≡ session.old.table }
     ensures done { IfOk result (λ reply. HasStepped Command.Commit reply session.old.held session.new.held) }
     ensures busy { OnErr result (session.new ≡ session.old) }
+    ensures turn { OnErr result (NeedsTurn Command.Commit session.old.held) }
 {
     match session.tcommit() {
         Ok(Ok(Ended::Committed)) => Ok(Reply::Committed),
@@ -148,6 +155,7 @@ fn commit(session: &mut HubSession) -> Result<Reply, Busy>
     ensures table { session.new.table ≡ session.old.table }
     ensures done { IfOk result (λ reply. HasStepped Command.Commit reply session.old.held session.new.held) }
     ensures busy { OnErr result (session.new ≡ session.old) }
+    ensures turn { OnErr result (NeedsTurn Command.Commit session.old.held) }
 {
     match session.tlevel() {
         0 => Ok(Reply::Refused(Refusal::NoTransaction)),
@@ -162,6 +170,7 @@ fn gone_back(session: &mut HubSession) -> Result<Reply, Busy>
     ensures table { session.new.table ≡ session.old.table }
     ensures done { IfOk result (λ reply. HasStepped Command.Rollback reply session.old.held session.new.held) }
     ensures busy { OnErr result (session.new ≡ session.old) }
+    ensures turn { OnErr result (NeedsTurn Command.Rollback session.old.held) }
 {
     match session.trollback() {
         Ok(Ok(())) => Ok(Reply::Finished),
@@ -175,6 +184,7 @@ fn roll_back(session: &mut HubSession) -> Result<Reply, Busy>
     ensures table { session.new.table ≡ session.old.table }
     ensures done { IfOk result (λ reply. HasStepped Command.Rollback reply session.old.held session.new.held) }
     ensures busy { OnErr result (session.new ≡ session.old) }
+    ensures turn { OnErr result (NeedsTurn Command.Rollback session.old.held) }
 {
     if session.tlevel() == 0 {
         Ok(Reply::Refused(Refusal::NoTransaction))
@@ -189,6 +199,7 @@ fn anew(session: &mut HubSession) -> Result<Reply, Busy>
     ensures table { session.new.table ≡ session.old.table }
     ensures done { IfOk result (λ reply. HasStepped Command.Restart reply session.old.held session.new.held) }
     ensures busy { OnErr result (session.new ≡ session.old) }
+    ensures turn { OnErr result (NeedsTurn Command.Restart session.old.held) }
 {
     match session.trestart() {
         Ok(Ok(restarts)) => Ok(Reply::Restarted(restarts)),
@@ -202,6 +213,7 @@ fn restart(session: &mut HubSession) -> Result<Reply, Busy>
     ensures table { session.new.table ≡ session.old.table }
     ensures done { IfOk result (λ reply. HasStepped Command.Restart reply session.old.held session.new.held) }
     ensures busy { OnErr result (session.new ≡ session.old) }
+    ensures turn { OnErr result (NeedsTurn Command.Restart session.old.held) }
 {
     if session.tlevel() == 0 {
         Ok(Reply::Refused(Refusal::NoTransaction))
@@ -215,6 +227,7 @@ pub(crate) fn step(session: &mut HubSession, command: Command) -> Result<Reply, 
     ensures table { session.new.table ≡ session.old.table }
     ensures done { IfOk result (λ reply. HasStepped command reply session.old.held session.new.held) }
     ensures busy { OnErr result (session.new ≡ session.old) }
+    ensures turn { OnErr result (NeedsTurn command session.old.held) }
 {
     match command {
         Command::Access(data) => access(session, data),

@@ -1,5 +1,5 @@
 //! What C calls to make keys. Each of them is declared in `include/vorgushan.h`, with its meaning for a C programmer.
-ghost use Rattle.std.specs.Prelude.{◌≡◌, [], None, Some, IfOk, IfErr};
+ghost use Rattle.std.specs.Prelude.{◌≡◌, [], true, None, Some, is_some, IfOk, IfErr, OnOk};
 ghost use Rattle.std.specs.Option.{MatchOption};
 ghost use Rattle.embedded.specs.Outcomes.{outcome_number};
 ghost use Rattle.key_codec.specs.Draft.{IsDueOrMemory};
@@ -97,6 +97,7 @@ fn spell_in(
 ) -> Result<Key, Refusal>
     ensures ok { IfOk result (λ key. (due_in_turn (record { name = name.now; subscripts = [] }) (texts_of subscripts.now) ≡ None) × (key ≡ record { name = name.now; subscripts = texts_of subscripts.now })) }
     ensures err { IfErr result (λ refusal. IsDueOrMemory refusal (due_in_turn (record { name = name.now; subscripts = [] }) (texts_of subscripts.now))) }
+    ensures draft { OnOk result (is_some draft.new.inside ≡ true) }
 {
     match take_draft(alloc, draft) {
         Ok(mut there) => {
@@ -123,7 +124,8 @@ fn end_lone_draft(alloc: Global, key: &mut VgKey, draft: &mut VgDraft)
 /// draft has to grow, or the key has over 38 bytes.
 ///
 /// Refusals: the first that `vorgushan_key_name`, and then `vorgushan_key_subscript` for one subscript after the other,
-/// would tell; `OutOfMemory`: then what was there is there still. Where that was no key, no draft is left either.
+/// would tell; `OutOfMemory`: then what was there is there still. Where that was no key, no draft is left either; behind a
+/// key that is made one stays.
 #[unsafe(no_mangle)]
 pub extern "C" fn vorgushan_key_spell(
     alloc: Global,
@@ -134,6 +136,7 @@ pub extern "C" fn vorgushan_key_spell(
 ) -> u32
     ensures key { IsSpelledKey name.now (texts_of subscripts.now) key.old.inside key.new.inside result }
     ensures draft { key.new.inside ≡ None → draft.new.inside ≡ None }
+    ensures kept { result ≡ outcome_number Outcome.Done → is_some draft.new.inside ≡ true }
 {
     let spelled = match spell_in(alloc, draft, name, subscripts) {
         Ok(made) => replace_key(alloc, key, made),

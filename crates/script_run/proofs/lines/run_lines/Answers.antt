@@ -7,14 +7,14 @@ use Rattle.script_run.proofs.Stopped.{passed_on, stopped_lines}
 use Rattle.script_run.proofs.lines.run_lines.Goals as goal
 
 pub lines-init : goal.lines-init
-lines-init g c = record { in_range = omega arith; ran = RanFront-none _ _ _ _ refl refl refl refl; kept = refl }
+lines-init g c = record { in_range = omega arith; ran = RanFront-none _ _ _ _ refl refl refl refl; few = λ few. few; kept = refl }
 
 pub lines-preserved : goal.lines-preserved
 lines-preserved g c =
     let so_far = c.lines.invariant in
     let line-is = c.strip_return.ensures ∙ ap (λ (t : List ℕ). strip_last 13 t) c.split_at.ensures.front in
     let more = more_lines c.args.text.now c.strip_return.result.now c.lines.at c.in-Some.end _ _ _ _ _ _ so_far.in_range so_far.ran c.in-Some.ensures line-is c.in_ok-run_kept.ensures.ran in
-    record { in_range = more.0; ran = more.1; kept = c.in_ok-run_kept.ensures.counts ∙ so_far.kept }
+    record { in_range = more.0; ran = more.1; few = λ few. c.in_ok-run_kept.ensures.few (so_far.few few); kept = c.in_ok-run_kept.ensures.counts ∙ so_far.kept }
 
 pub returns-in_err-run_kept-clause-err : goal.returns-in_err-run_kept-clause-err
 returns-in_err-run_kept-clause-err g c =
@@ -30,3 +30,6 @@ returns-in_err-run_kept-clause-stopped g c =
     let so_far = c.lines.invariant in
     let line-is = c.strip_return.ensures ∙ ap (λ (t : List ℕ). strip_last 13 t) c.split_at.ensures.front in
     λ memory. stopped_lines c.args.text.now c.strip_return.result.now c.lines.at c.in-Some.end _ _ _ _ _ _ so_far.in_range so_far.ran c.in-Some.ensures line-is (c.in_err-run_kept.ensures.stopped (passed_on _ _ c.from_residual.ensures.1 memory))
+
+pub returns-clause-few : goal.returns-clause-few
+returns-clause-few g c = λ few. c.lines.invariant.few few

@@ -78,3 +78,8 @@ returns-in_err-extend_line-2-clause-stopped g c =
     let line-is = ap (λ (front : List ℕ). strip_last 13 (begun ++ front)) c.split_at.ensures.front in
     let rest-is : take (length piece - (end + 1)) (drop (end + 1) piece) ≡ drop (suc end) piece = rest_of piece (end + 1) ∙ ap (λ (n : ℕ). drop n piece) (add-one end) in
     λ _. StoppedFront-after _ _ _ _ _ _ _ (joined_lines begun piece _ _ _ end _ _ _ _ _ _ c.requires c.in-Some.ensures line-is rest-is c.in_ok-end_line.ensures.ran c.in_ok-at.ensures.ran) refl refl
+
+-- ---- what stays gathered
+
+pub returns-clause-few : goal.returns-clause-few
+returns-clause-few g c = λ few. c.in_ok-at.ensures.few (c.in_ok-end_line.ensures.few few)

@@ -1,6 +1,6 @@
 use Rattle.std.proofs.Common.{◌≡◌, length, refl, ◌∙◌, arith}
 use Rattle.std.proofs.lemmas.Bool.Decides.{nat_tests}
-use Rattle.script_run.proofs.Stands.{answered, begun_at, begun_piece, begun_end, wrote_all, stands_first, stands_next}
+use Rattle.script_run.proofs.Stands.{answered, begun_at, begun_piece, begun_end, wrote_all, left_all, stands_first, stands_next}
 use Rattle.listing.specs.laws.Bytes.{on_err}
 use Rattle.script_run.proofs.Stopped.{is_memory, gathered_at, gathered_piece, gathered_end}
 use Rattle.script_run.proofs.run.run_pieces.Goals as goal
@@ -31,6 +31,12 @@ returns-then-is_empty-clause-output g c =
     let none : length c.in_ok-piece.piece.now ≡ 0 = grind (arith, nat_tests, c.is_empty.ensures, c.if-is_empty.true) in
     let ended = rw c.deref.ensures.value at c.in_ok-finish.ensures.ran in
     wrote_all _ _ _ _ _ _ _ _ _ _ _ _ c.pieces.invariant.stands c.in_ok-piece.ensures.read none ended
+
+pub returns-then-is_empty-clause-left : goal.returns-then-is_empty-clause-left
+returns-then-is_empty-clause-left g c =
+    let none : length c.in_ok-piece.piece.now ≡ 0 = grind (arith, nat_tests, c.is_empty.ensures, c.if-is_empty.true) in
+    let ended = rw c.deref.ensures.value at c.in_ok-finish.ensures.ran in
+    left_all _ _ _ _ _ _ _ _ _ _ _ _ c.pieces.invariant.stands c.in_ok-piece.ensures.read none ended
 
 pub returns-then-is_empty-clause-at_end : goal.returns-then-is_empty-clause-at_end
 returns-then-is_empty-clause-at_end g c =

@@ -1,4 +1,5 @@
 use Rattle.std.proofs.Common.{sym, ◌∙◌}
+use Rattle.hub.proofs.Told.{on_err}
 use Rattle.shared_engine.specs.laws.Prefixes.{begins_itself}
 use Rattle.shared_engine.specs.laws.Told.{rolled_free}
 use Rattle.hub.proofs.session.HubSession.trollback.Goals as goal
@@ -9,3 +10,6 @@ returns-clause-done c =
 
 pub returns-then-took_lock-clause-done : goal.returns-then-took_lock-clause-done
 returns-then-took_lock-clause-done c = rw (← c.self.view_is) c.rolled_back-done.ensures.done
+
+pub returns-then-took_lock-clause-took : goal.returns-then-took_lock-clause-took
+returns-then-took_lock-clause-took c = on_err _ (sym c.took_lock.ensures ∙ c.if-took_lock.true)
