@@ -193,25 +193,38 @@ at_end bytes (Some more) (Some more') ls begun piece h k p e =
     let none : more ≡ [] = k ∙ ap (λ (x : List ℕ). x ++ more') p ∙ e in
     h ∙ ap (λ (m : List ℕ). ls ++ lines_of (begun ++ m)) none ∙ ap (λ (t : List ℕ). ls ++ lines_of t) (append-nil begun)
 
+-- all lines, those before the end of input and the last
+whole_lines : (start : Machine) (bytes : List ℕ) (left left' old new : Option (List ℕ)) (begun piece : List ℕ) (a : Script) (last : List Answer) (h : Stands start (Some bytes) left begun old new a) → HasRead left left' piece → length piece ≡ 0
+    → lines_in last ≡ nonempty_line begun → lines_in (h.answers ++ last) ≡ lines_of bytes
+whole_lines start bytes left left' old new begun piece a last h r none of_lines =
+    lines-append h.answers last ∙ ap (λ (l : List (List ℕ)). lines_in h.answers ++ l) (of_lines ∙ sym (last_line begun h.whole)) ∙ sym (at_end bytes left left' (lines_in h.answers) begun piece h.split r.consumed (nil_from_length piece none) (r.ended none))
+
+whole_end : (start : Machine) (all left old new : Option (List ℕ)) (begun : List ℕ) (a : Script) (last : List Answer) (h : Stands start all left begun old new a) → left_at_end last a.jobs a.core.machine ≡ left_at_end (h.answers ++ last) [] start
+whole_end start all left old new begun a last h =
+    let left-is : left_by last a.core.machine ≡ left_by (h.answers ++ last) start = left-then start a.core.machine h.answers last h.machine in
+    let open-is : left_open last a.jobs ≡ left_open (h.answers ++ last) [] = open-then [] a.jobs h.answers last h.jobs in
+    λ i. run_of (halts_of (open-is i)) (left-is i)
+
+-- their text, and the ending
+whole_text : (start : Machine) (listed : Bool) (all left old new : Option (List ℕ)) (begun : List ℕ) (a : Script) (last : List Answer) (h : Stands start all left begun old new a)
+    → text_of h.answers ++ ((a.out.items ++ text_of last) ++ ending listed (after (left_at_end last a.jobs a.core.machine).units initial).map) ≡ text_of (h.answers ++ last) ++ ending listed (after (left_at_end (h.answers ++ last) [] start).units initial).map
+whole_text start listed all left old new begun a last h =
+    let tail : List ℕ = ending listed (after (left_at_end last a.jobs a.core.machine).units initial).map in
+    ap (λ (t : List ℕ). text_of h.answers ++ ((t ++ text_of last) ++ tail)) h.out ∙ sym (append_assoc (text_of h.answers) (text_of last) tail) ∙ ap (λ (t : List ℕ). t ++ tail) (sym (flat_map-append _ h.answers last))
+    ∙ ap (λ (s : Machine). text_of (h.answers ++ last) ++ ending listed (after s.units initial).map) (whole_end start all left old new begun a last h)
+
 -- the whole output, of the answers before the end of input and of that to the last line
 whole_output : (start : Machine) (listed : Bool) (bytes : List ℕ) (left left' old new : Option (List ℕ)) (begun piece : List ℕ) (a : Script) (last : List Answer) (h : Stands start (Some bytes) left begun old new a) → HasRead left left' piece → length piece ≡ 0
     → lines_in last ≡ nonempty_line begun → AreAnswers a.core.machine last → (IsGood a.core.machine → IsGood (left_at_end last a.jobs a.core.machine))
     → IsOutput start listed bytes (text_of h.answers ++ ((a.out.items ++ text_of last) ++ ending listed (after (left_at_end last a.jobs a.core.machine).units initial).map)) (noted last a.outcome)
-whole_output start listed bytes left left' old new begun piece a last h r none of_lines each good =
-    let whole : List Answer = h.answers ++ last in
-    let left-is : left_by last a.core.machine ≡ left_by whole start = left-then start a.core.machine h.answers last h.machine in
-    let open-is : left_open last a.jobs ≡ left_open whole [] = open-then [] a.jobs h.answers last h.jobs in
-    let end-is : left_at_end last a.jobs a.core.machine ≡ left_at_end whole [] start = λ i. run_of (halts_of (open-is i)) (left-is i) in
-    let tail : List ℕ = ending listed (after (left_at_end last a.jobs a.core.machine).units initial).map in
-    record {
-      answers = whole;
-      of_lines = lines-append h.answers last ∙ ap (λ (l : List (List ℕ)). lines_in h.answers ++ l) (of_lines ∙ sym (last_line begun h.whole)) ∙ sym (at_end bytes left left' (lines_in h.answers) begun piece h.split r.consumed (nil_from_length piece none) (r.ended none));
-      each = AreAnswers-append start a.core.machine h.answers last h.each h.machine each;
-      legal = (subst IsGood end-is (good h.good)).legal;
-      written = ap (λ (t : List ℕ). text_of h.answers ++ ((t ++ text_of last) ++ tail)) h.out ∙ sym (append_assoc (text_of h.answers) (text_of last) tail) ∙ ap (λ (t : List ℕ). t ++ tail) (sym (flat_map-append _ h.answers last))
-          ∙ ap (λ (s : Machine). text_of whole ++ ending listed (after s.units initial).map) end-is;
-      told = ap (noted last) h.outcome ∙ noted-then h.answers last (outcome_of []);
-    }
+whole_output start listed bytes left left' old new begun piece a last h r none of_lines each good = record {
+  answers = h.answers ++ last;
+  of_lines = whole_lines start bytes left left' old new begun piece a last h r none of_lines;
+  each = AreAnswers-append start a.core.machine h.answers last h.each h.machine each;
+  legal = (subst IsGood (whole_end start (Some bytes) left old new begun a last h) (good h.good)).legal;
+  written = whole_text start listed (Some bytes) left old new begun a last h;
+  told = ap (noted last) h.outcome ∙ noted-then h.answers last (outcome_of []);
+}
 
 pub wrote_all : (start : Machine) (listed : Bool) (all left left' old new last : Option (List ℕ)) (begun piece : List ℕ) (a b : Script) → Stands start all left begun old new a → HasRead left left' piece → length piece ≡ 0 → RanEnd listed begun a b new last
     → IfSome all (λ bytes. Wrote start listed bytes b.outcome old last)
@@ -232,15 +245,15 @@ pub left_all : (start : Machine) (listed : Bool) (all left left' old new last : 
 left_all start listed None left left' old new last begun piece a b h r none e = tt
 left_all start listed (Some bytes) left left' old new last begun piece a b h r none e =
     let whole : List Answer = h.answers ++ e.answers in
-    let output = whole_output start listed bytes left left' old new begun piece a e.answers h r none e.of_lines e.each e.good in
     let left-is : left_by e.answers a.core.machine ≡ left_by whole start = left-then start a.core.machine h.answers e.answers h.machine in
     let open-is : left_open e.answers a.jobs ≡ left_open whole [] = open-then [] a.jobs h.answers e.answers h.jobs in
     record {
       answers = whole;
-      of_lines = output.of_lines;
-      each = output.each;
+      of_lines = whole_lines start bytes left left' old new begun piece a e.answers h r none e.of_lines;
+      each = AreAnswers-append start a.core.machine h.answers e.answers h.each h.machine e.each;
       machine = subst (λ (jobs : List ℕ). AreHalted jobs (left_by whole start) b.core.machine) open-is (subst (λ (s : Machine). AreHalted (left_open e.answers a.jobs) s b.core.machine) left-is e.machine);
-      written = subst (Appends old last) output.written (Appends-more old new last (text_of h.answers) ((a.out.items ++ text_of e.answers) ++ ending listed (after (left_at_end e.answers a.jobs a.core.machine).units initial).map) h.written e.written);
+      written = subst (Appends old last) (whole_text start listed (Some bytes) left old new begun a e.answers h)
+          (Appends-more old new last (text_of h.answers) ((a.out.items ++ text_of e.answers) ++ ending listed (after (left_at_end e.answers a.jobs a.core.machine).units initial).map) h.written e.written);
     }
 
 -- a beginning of the last answer and of the ending was written

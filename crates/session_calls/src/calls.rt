@@ -49,7 +49,7 @@ fn told(last: &Option<Answered>) -> Outcome
 /// Does a command of the session, and keeps its reply in the place of the last one.
 ///
 /// Outcomes: the reply's own; HALT is none of these commands, and is refused as `BadLine`. `NoEngine` where the seat has
-/// no session, `Busy` where others are at what all share, and then nothing has changed.
+/// no session, `Busy` where the command needs what all share and others are at that, and then nothing has changed.
 pub fn run(seat: &mut Seat, command: Command) -> Result<Outcome, Busy>
     ensures { IsCall IsNoCause command (λ last outcome. outcome ≡ outcome_in last) ⊤ seat.old seat.new result }
 {

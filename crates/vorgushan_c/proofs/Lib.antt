@@ -5,4 +5,5 @@ pub mod KeyValues
 pub mod Loaded
 pub mod SeatCalled
 pub mod SeatValues
+pub mod Spelled
 pub mod Values
