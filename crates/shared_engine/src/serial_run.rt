@@ -1,5 +1,5 @@
 //! A block of commands under one hold of the lock.
-ghost use Rattle.std.specs.Prelude.{◌≡◌, ◌≢◌, ◌⊎◌, ℕ, ◌+◌, ◌-◌, ◌≤◌, ◌<◌, List, [], true, length, vec_capacity, Some, IfOk, IfErr, IsErrOf, OnOk, OnErr};
+ghost use Rattle.std.specs.Prelude.{◌≡◌, ◌≢◌, ◌⊎◌, ℕ, ◌+◌, ◌-◌, ◌≤◌, ◌<◌, List, [], true, length, vec_capacity, Some, IfOk, IfErr, OnOk, OnErr};
 ghost use Rattle.std.specs.List.{All};
 ghost use Rattle.refusal.specs.declared.Refusal.{Refusal};
 ghost use Rattle.command.specs.declared.request.Command.{Command};
@@ -121,8 +121,8 @@ impl Locked {
     /// anew, so no TCOMMIT in them begins it anew. Each LOCK is one try; behind one that is blocked, and has to have its
     /// names, nothing is done. A command's refusal is its reply.
     ///
-    /// Refusals, after which nothing has changed but what the session has seen: those of TRESTART, `StampsUsedUp` only
-    /// where the session took a LOCK; and `OutOfMemory` for the replies.
+    /// Refusals, after which nothing has changed but what the session has seen: those of TRESTART; and `OutOfMemory` for
+    /// the replies.
     #[tactic(auto, using(crate::proofs::Alone::alone_anew_now))]
     pub(crate) fn trestart_serially(
         &mut self,
@@ -146,7 +146,6 @@ impl Locked {
         ensures seen { OnOk result (session.new.held.seen ≡ self.new.core.units) }
         ensures refused { OnErr result ((self.new.core ≡ self.old.core) × (session.new.held ≡ knowing self.old.core.units session.old.held)) }
         ensures cause { IfErr result (λ refusal. HasNoRoom refusal 1 (length self.old.core.units)) }
-        ensures locks { IsErrOf result Refusal.StampsUsedUp → session.old.held.state.took_lock ≡ true }
         ensures others { (desk.new.knows.given ≡ desk.old.knows.given) × (self.new.seats ≡ self.old.seats) }
     {
         let replies = match Vec::with_capacity(alloc, block.len()) {

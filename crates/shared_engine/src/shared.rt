@@ -382,7 +382,6 @@ impl<B: BoardName> Shared<B> {
         ensures commits { IfOk result (λ run. NoneBeganAnew block.items run) }
         ensures refused { OnErr result (IsBeginning session.new.seen session.old.seen × (session.new ≡ knowing session.new.seen session.old)) }
         ensures cause { IfErr result (λ refusal. HasNoRoom refusal 1 (length session.new.seen)) }
-        ensures locks { IsErrOf result Refusal.StampsUsedUp → session.old.state.took_lock ≡ true }
         ensures turn { MayBeTaken turn.old turn.new }
     {
         let mut guard = self.lock.write(rt, Patience::Short);

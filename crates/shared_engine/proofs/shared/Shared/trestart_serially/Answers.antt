@@ -15,6 +15,3 @@ returns-clause-refused g c = let h = c.trestart_serially-done.ensures in rw (←
 
 pub returns-clause-cause : goal.returns-clause-cause
 returns-clause-cause g c = let h = c.trestart_serially-done.ensures in anew_cause _ _ _ c.session.inside.inner.held c.trestart_serially-done.new.session.held h.refused h.cause
-
-pub returns-clause-locks : goal.returns-clause-locks
-returns-clause-locks g c = rw (← c.session.view_is) c.trestart_serially-done.ensures.locks
