@@ -5,10 +5,11 @@
 //! line keeps its place, since lines are grouped by the job that stands before their reply. A report is seen as its job
 //! and its replies, and its text is made where it is: `report_text` of `specs/Reports.antt`.
 //!
-//! Of the lines `2 SET ^B=1`, `1 SET ^A=1`, `2 $GET(^B)` there are two scripts: job 2 with two lines, then job 1.
+//! Of the lines `2 SET ^B=1`, `1 SET ^A=1`, `2 $GET(^B)` there are two scripts: job 2 with two lines, then job 1. The
+//! scripts of a text's halves, put together, are those of the text.
 //!
 //! Read `specs/Groups.antt`, `specs/Lines.antt`, `specs/Reports.antt`, `specs/Blocks.antt`, `specs/Timeouts.antt`, then
-//! `grouping.rt`, `report.rt`, `block.rt`, `timeout.rt`.
+//! `grouping.rt`, `halves.rt`, `report.rt`, `block.rt`, `timeout.rt`.
 #![tactic(auto)]
 
 pub use block::{Block, block_of, push_in_place};

@@ -1,7 +1,8 @@
 //! The job server: scripts of many jobs run at the same time on one engine.
 //!
-//! A job's lines are done in order by one worker. Jobs wait in a queue, in order of their first lines; a worker takes
-//! the next one whole, and hands its report back whole. What workers share is the engine and two channels, and no line.
+//! A long text's lines are sorted by job in halves of halves, in as many threads as there are workers or fewer. A job's
+//! lines are done in order by one worker. Jobs wait in a queue, in order of their first lines; a worker takes the next
+//! one whole, and hands its report back whole. What workers share is the engine and two channels, and no line.
 //!
 //! A block is a TSTART outside a transaction and the lines after it, up to the one that leaves no transaction open, the
 //! one before a HALT, or the job's last. Where its TCOMMIT finds that the transaction was overtaken, its lines after
