@@ -8,4 +8,4 @@ pub returns-clause-halted : goal.returns-clause-halted
 returns-clause-halted c = halted_one _ _ _ _ c.step.ensures.machine c.step.ensures.exact (c.step.ensures.sure refl)
 
 pub returns-clause-nodes : goal.returns-clause-nodes
-returns-clause-nodes c = ap (λ (s : Machine). (after s.units initial).map) c.step.ensures.machine ∙ same_nodes _ _ _
+returns-clause-nodes c = ap (λ (s : Machine). (after s.units initial).map) c.step.ensures.machine ∙ same_nodes c.args.job c.step.result c.args.core.now.machine
