@@ -1,5 +1,5 @@
 //! A journal's lines, some units at a time, from one place in it to the next.
-ghost use Rattle.std.specs.Prelude.{◌≡◌, ◌<◌, ◌+◌, ◌++◌, ◌^◌, drop, length, IfOk, OnErr, OnOk};
+ghost use Rattle.std.specs.Prelude.{◌≡◌, ◌<◌, ◌≤◌, ◌+◌, ◌++◌, ◌^◌, drop, length, IfOk, OnErr, OnOk};
 ghost use Rattle.std.specs.Option.{MatchOption};
 ghost use Rattle.journal_lines.specs.Journals.{dropped, lines_of, still_pending, unit_steps};
 ghost use Rattle.journal_lines.specs.Places.{placed_at, place_past, unit_lines, AreBehind, IsUnitGiven};
