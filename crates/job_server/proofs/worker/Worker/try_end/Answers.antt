@@ -19,9 +19,7 @@ returns-then-over g c =
     let new = running c.note_reply.new.replies.replies c.do_line.new.sessions in
     subst (λ (x : Running). HasTried c.args.job line (Over line.next) x new) c.run.view_is (
       ended_advances c.args.job line c.args.command c.in_ok-reply.reply inside new c.requires (c.is_restarted.ensures.kept c.if-is_restarted.false) c.in_ok-note_reply.ensures c.in_ok-reply.ensures,
-      c.in_ok-reply.reply,
-      c.is_over-over.ensures.over c.if-over.true,
-      c.in_ok-note_reply.ensures,
+      (c.in_ok-reply.reply, c.is_over-over.ensures.over c.if-over.true, c.in_ok-note_reply.ensures),
     )
 
 pub returns : goal.returns
