@@ -1,15 +1,18 @@
 -- What was seen of a session and looked at.
 use Rattle.std.proofs.Common.{◌≡◌, ◌∙◌, ℕ, Bool, List, ap, inl, subst, sym}
 use Rattle.std.specs.Prelude.{IfErr, IfOk, Option, Some, Result, Ok, Err}
+use Rattle.std.specs.Result.{IsErrAnd}
 use Rattle.collation.specs.Database.{Database}
 use Rattle.collation.specs.Reference.{Reference, Spot}
 use Rattle.collation.specs.declared.direction.Direction.{Direction}
+use Rattle.command.specs.declared.request.Command.{Command}
 use Rattle.embedded.specs.Looks.{IsOrder, IsQuery}
 use Rattle.embedded.specs.declared.outcome.Outcome.{Outcome}
 use Rattle.hub.specs.declared.hub.Busy.{Busy}
 use Rattle.key_codec.specs.Draft.{longer, place_of}
 use Rattle.shared_engine.specs.Named.{SessionAt}
 use Rattle.typed_calls.specs.Typed.{IsPlaceCause, IsQueryCause, IsWithin}
+use Rattle.session_calls.specs.Calls.{IsWaiting, IsStepOrNone}
 use Rattle.session_calls.specs.Looks.{IsLook, IsOrderLook, IsQueryLook, IsSeen}
 use Rattle.session_calls.specs.declared.seat.Seat.{Seat}
 
@@ -45,3 +48,8 @@ pub query_looked : (at_start : Bool) (old new : Reference) (is_open : Bool) (dir
     → IsWithin (λ refusal. IsQueryCause old is_open refusal) → IsLook at_start (λ m outcome. IsQuery place direction m old new outcome) (new ≡ old) before after result → IsQueryLook at_start old is_open direction new before after result
 query_looked at_start old new is_open direction before after result place is within h =
     inl (subst (λ (p : Spot). IsLook at_start (λ m outcome. IsQuery p direction m old new outcome) (new ≡ old) before after result) is h, within)
+
+-- others are at what a command needs
+pub left_waiting : (command : Command) (before after : Seat) (r : Result Bool Busy) (busy : Busy) → IsErrAnd r (λ e. e ≡ busy) → IsWaiting command before after → IsStepOrNone command before after r
+left_waiting command before after (Ok b) busy is waiting = absurd is
+left_waiting command before after (Err e) busy is waiting = waiting

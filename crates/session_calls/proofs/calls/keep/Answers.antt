@@ -1,6 +1,6 @@
 use Rattle.std.proofs.Common.{ap, refl, rules}
 use Rattle.std.specs.Prelude.{Some}
-use Rattle.session_calls.proofs.Looked.{same_seat}
+use Rattle.session_calls.proofs.Looked.{same_seat, left_waiting}
 use Rattle.session_calls.proofs.calls.keep.Goals as goal
 
 pub returns : goal.returns
@@ -16,4 +16,5 @@ returns c =
     }
 
 pub returns-in_err-reply : goal.returns-in_err-reply
-returns-in_err-reply c = record { session = c.in-Some.session; there = search rules; turn = c.in_err-reply.ensures.turn; left = same_seat _ _ _ (search rules) c.in_err-reply.ensures.busy }
+returns-in_err-reply c =
+    left_waiting _ _ _ _ _ c.from_residual.ensures.1 (record { session = c.in-Some.session; there = search rules; turn = c.in_err-reply.ensures.turn; left = same_seat _ _ _ (search rules) c.in_err-reply.ensures.busy })
