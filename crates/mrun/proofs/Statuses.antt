@@ -1,6 +1,6 @@
 -- The exit status behind what is kept.
-use Rattle.std.proofs.Common.{◌≡◌, ◌⊎◌, ℕ, Bool, true, inl, inr, ◌∙◌}
-use Rattle.std.specs.Prelude.{OnErr, IfOk, Result, Ok, Err}
+use Rattle.std.proofs.Common.{◌≡◌, ◌⊎◌, ℕ, true, inl, inr, ◌∙◌}
+use Rattle.std.specs.Prelude.{OnOk, OnErr, IfOk, IfSome, Option, None, Some, Result, Ok, Err}
 use Rattle.script_run.specs.declared.outcome.Outcome.{Outcome}
 use Rattle.script_run.specs.declared.fault.Fault.{Fault}
 
@@ -14,3 +14,9 @@ pub refused_stays : (outcome : Result Outcome Fault) (status last fault : ℕ) �
 refused_stays (Ok o) status last fault is (inl same) = λ refused. inl (same ∙ is refused)
 refused_stays (Ok o) status last fault is (inr at_fault) = λ refused. inr at_fault
 refused_stays (Err e) status last fault is stays = tt
+
+-- what holds whatever is kept
+pub whatever_kept : {A E P : Type 0} (kept : Option (Result A E)) → P → IfSome kept (λ drafts. OnOk drafts P)
+whatever_kept None p = tt
+whatever_kept (Some (Ok a)) p = p
+whatever_kept (Some (Err e)) p = tt
