@@ -129,11 +129,8 @@ fn pass_units(units: &mut Units<'_>, count: u64) -> Result<(), AllocError>
     Ok(())
 }
 
-/// The units of a journal behind the one of this number, read back one by one; none where it has dropped one of them.
-/// All units are read that it hasn't dropped, those before the number too, so it has to have as many.
-///
-/// Where memory is refused for one of these there are none; none is read where it has dropped one of them.
-pub fn units_behind(journal: &Journal, number: u64) -> Result<Option<Units<'_>>, AllocError>
+// As `units_behind`, of a number up to the journal's end.
+fn units_up_from(journal: &Journal, number: u64) -> Result<Option<Units<'_>>, AllocError>
     requires { number ≤ length journal.now.units }
     ensures found { IfOk result (λ found. MatchOption found (number < length (dropped journal.now)) (λ units. AreBehind number journal.now units)) }
     ensures refused { OnErr result (length (dropped journal.now) ≤ number) }
@@ -145,4 +142,15 @@ pub fn units_behind(journal: &Journal, number: u64) -> Result<Option<Units<'_>>,
     let mut units = journal.units();
     pass_units(&mut units, number - base)?;
     Ok(Some(units))
+}
+
+/// The units of a journal behind the one of this number, read back one by one: no units behind its end, and none at all
+/// (`None`) where it has dropped one of them. All units are read that it hasn't dropped, those before the number too.
+///
+/// Where memory is refused for one of these there are none; none is read where it has dropped one of them.
+pub fn units_behind(journal: &Journal, number: u64) -> Result<Option<Units<'_>>, AllocError>
+    ensures found { IfOk result (λ found. MatchOption found (number < length (dropped journal.now)) (λ units. AreBehind number journal.now units)) }
+    ensures refused { OnErr result (length (dropped journal.now) ≤ number) }
+{
+    units_up_from(journal, number.min(journal.len()))
 }
