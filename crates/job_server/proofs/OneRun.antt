@@ -5,13 +5,12 @@ use Rattle.std.specs.List.{All, sum_by}
 use Rattle.std.proofs.lemmas.List.Elements.{All-nil, All-cons, All-head, All-tail, All-append}
 use Rattle.std.proofs.lemmas.List.Sums.{sum_by-append, sum_by-cons}
 use Rattle.journal.specs.declared.unit.Unit.{Unit as JournalUnit}
-use Rattle.journal.specs.Kept.{Claim, job_of}
+use Rattle.journal.specs.Kept.{Claim}
 use Rattle.journal.specs.Story.{Machine, nothing_done}
-use Rattle.serial.specs.Interleaving.{Told, of_job, after_told, IsHistory, IsWritten, AreWritten, claims_of, AreAllClaims, IsClaimed}
+use Rattle.serial.specs.Interleaving.{Told, of_job, after_told, IsHistory, IsWritten, AreWritten, AreAllClaims, IsClaimed}
 use Rattle.serial.specs.laws.ByJob.{same_or_not}
 use Rattle.serial.specs.laws.Claims.{each_is_claimed}
 use Rattle.serial.specs.laws.Merging.{one_interleaving}
-use Rattle.pin_board.specs.Slips as slips
 use Rattle.pin_board.specs.Slips.{weigh}
 use Rattle.shared_engine.specs.Receipts.{Book}
 use Rattle.shared_engine.specs.Engines.{AreAllUnits, HasSeenOf, units_weigh}
@@ -90,10 +89,6 @@ wrote_one k xs (b ∷ bs) wrote there = by_book (claimed_either (k + 1) (b.recei
     by_book (inl here) later = wrote.0 k here
     by_book (inr behind) later = later behind
 
-same_claims : (n : ℕ) (us : List JournalUnit) → slips.claims_of n us ≡ claims_of n us
-same_claims n [] = refl
-same_claims n (u ∷ us) = ap (λ (cs : List Claim). record { job = job_of u; number = n; unit = u } ∷ cs) (same_claims (n + 1) us)
-
 weigh_books : (h : Claim → ℕ) (bs : List Book) → sum_by h (claims_in bs) ≡ units_weigh h bs
 weigh_books h [] = refl
 weigh_books h (b ∷ bs) =
@@ -103,7 +98,7 @@ weigh_books h (b ∷ bs) =
     all ∙ ((λ i. own i + weigh_books h bs i) ∙ sym step)
 
 all_claims : (log : List JournalUnit) (bs : List Book) → AreAllUnits log bs → AreAllClaims log (claims_in bs)
-all_claims log bs all h = weigh_books h bs ∙ (sym (all h) ∙ ap (sum_by h) (same_claims 1 log))
+all_claims log bs all h = weigh_books h bs ∙ sym (all h)
 
 -- ---- the scripts
 

@@ -11,7 +11,7 @@ use Rattle.journal.specs.Kept.{job_of}
 use Rattle.journal.specs.Log.{units_in, unit_in, Stands, KeepsUnits, KeepsRoom, IsUnitOf}
 use Rattle.journal.specs.Reading.{unit_at}
 use Rattle.journal.specs.Stored.{FitsUnit}
-use Rattle.journal.specs.laws.Log.{units_again, unit_again, stands_none, stands_more}
+use Rattle.journal.specs.laws.Log.{units_again, unit_again, stands_none, stands_more, stands_joined}
 use Rattle.journal.specs.laws.Reading.{unit_back}
 
 -- a log of no units
@@ -121,6 +121,25 @@ pushed bytes end all count job u h unit at =
       units = subst (λ o. IfSome o (λ v. units_in (count + 1) (take all bytes) ≡ us ++ v ∷ [])) (sym unit.is) again;
       behind = drop_all all bytes (omega arith);
     }
+
+-- ---- many units more
+
+-- a log to whose units those of other bytes were added
+pub record Appended (bytes new : List ℕ) (end all count more : ℕ) (us : List JournalUnit) : Type 0 where
+  pub keeps : KeepsUnits new all (count + more)
+  pub units : units_in (count + more) (take all new) ≡ units_in count (take end bytes) ++ us
+  pub behind : drop all new ≡ []
+
+pub appended : (bytes more_bytes new : List ℕ) (end all count more : ℕ) (us : List JournalUnit) → KeepsUnits bytes end count → drop end bytes ≡ [] → Stands more_bytes more us → new ≡ bytes ++ more_bytes → all ≡ length new → Appended bytes new end all count more us
+appended bytes more_bytes new end all count more us h none stands is at =
+    let long = ends_there bytes end h.within none in
+    let front : take end bytes ≡ bytes = take_all end bytes (omega (arith, long)) in
+    let vs = units_in count (take end bytes) in
+    let whole : take all new ≡ new = take_all all new (omega (arith, at)) in
+    let split : take all new ≡ take end bytes ++ more_bytes = whole ∙ (is ∙ ap (λ t. t ++ more_bytes) (sym front)) in
+    let moved : Stands (take all new) (count + more) (vs ++ us) = subst (λ t. Stands t (count + more) (vs ++ us)) (sym split) (stands_joined (take end bytes) more_bytes count more vs us h.stands stands) in
+    let again : units_in (count + more) (take all new) ≡ vs ++ us = units_again (take all new) (count + more) (vs ++ us) moved in
+    record { keeps = record { within = omega (arith, at); stands = subst (Stands (take all new) (count + more)) (sym again) moved }; units = again; behind = drop_all all new (omega (arith, at)) }
 
 -- ---- reading
 

@@ -43,7 +43,7 @@ all_locks (u ∷ us) s = all_locks us (after_unit u s) ∙ ap (locks_on us) (one
 
 -- ---- tallies
 
-no_more : (p : JournalUnit → Bool) (us : List JournalUnit) → length (filter p us) ≤ length us
+pub no_more : (p : JournalUnit → Bool) (us : List JournalUnit) → length (filter p us) ≤ length us
 no_more p [] = omega arith
 no_more p (u ∷ us) = by_test (p u) (no_more p us)
   where

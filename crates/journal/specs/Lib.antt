@@ -1,10 +1,12 @@
 pub mod Adopted
 pub mod Based
 pub mod Checkpoints
+pub mod Claims
 pub mod Counting
 pub mod Dropped
 pub mod Exchanges
 pub mod Format
+pub mod Gathered
 pub mod History
 pub mod Kept
 pub mod laws

@@ -13,6 +13,7 @@ ghost use Rattle.journal.specs.Based.{IsBaseOf, database_of};
 ghost use Rattle.journal.specs.Counting.{AreTallies};
 ghost use Rattle.journal.specs.Format.{unit_bytes};
 ghost use Rattle.journal.specs.History.{initial, after};
+ghost use Rattle.journal.specs.Kept.{HasNoRoom};
 ghost use Rattle.journal.specs.Log.{unit_in, IsUnitOf};
 ghost use Rattle.command.specs.declared.access.DataCommand.TheVariants.{Set, Kill, Look};
 ghost use Rattle.command.specs.declared.access.Look.TheVariants.{Get, Order};
@@ -22,6 +23,7 @@ ghost use Rattle.journal.specs.Stored.{Each, FitsUnit};
 use crate::Units;
 use crate::base::Base;
 use crate::exchanges::ExchangeLog;
+use crate::gets::Gets;
 use crate::log::Log;
 use crate::past::Past;
 use crate::tallies::Tallies;
@@ -118,6 +120,35 @@ impl Chronicle {
         if count == u64::MAX {
             return Err(Refusal::StampsUsedUp);
         }
+        Ok(())
+    }
+
+    /// Takes away what stands behind the units.
+    pub(crate) fn clear_behind(&mut self)
+        ensures units { self.new.units ≡ self.old.units }
+        ensures base { self.new.base ≡ self.old.base }
+        ensures ends { self.new.ends ≡ self.old.ends }
+        ensures behind { self.new.behind ≡ [] }
+    {
+        self.log.begin();
+    }
+
+    /// Adds these units at once behind the others. Refused where they have no numbers, or for want of memory: then all is
+    /// as it was.
+    pub(crate) fn append(&mut self, gets: &Gets) -> Result<(), Refusal>
+        requires { self.old.behind ≡ [] }
+        ensures ok { OnOk result (self.new.units ≡ self.old.units ++ gets.now.units) }
+        ensures fit { OnOk result (length self.old.units + length gets.now.units < 2 ^ 64) }
+        ensures err { OnErr result (self.new.units ≡ self.old.units) }
+        ensures base { self.new.base ≡ self.old.base }
+        ensures ends { self.new.ends ≡ self.old.ends }
+        ensures behind { self.new.behind ≡ [] }
+        ensures cause { IfErr result (λ refusal. HasNoRoom refusal (length gets.now.units) (length self.old.units)) }
+    {
+        if self.len().checked_add(gets.len()).is_none() {
+            return Err(Refusal::StampsUsedUp);
+        }
+        self.log.append(gets)?;
         Ok(())
     }
 

@@ -11,7 +11,7 @@ ghost use Rattle.journal.specs.Adopted.{adopted_units};
 ghost use Rattle.journal.specs.Based.{IsBaseOf, database_of};
 ghost use Rattle.journal.specs.Format.{unit_bytes};
 ghost use Rattle.journal.specs.History.{initial, after};
-ghost use Rattle.journal.specs.Kept.{job_of, since, HasNoNumber, HasNoRoom};
+ghost use Rattle.journal.specs.Kept.{claims_of, job_of, since, HasNoNumber, HasNoRoom};
 ghost use Rattle.command.specs.declared.access.DataCommand.TheVariants.{Set, Kill, Look};
 ghost use Rattle.command.specs.declared.access.Look.TheVariants.{Get, Order};
 ghost use Rattle.command.specs.declared.access.Answer.TheVariants.{Done, Value};
@@ -22,6 +22,8 @@ use crate::base::Base;
 use crate::before::Before;
 use crate::chronicle::Chronicle;
 use crate::exchanges::ExchangeLog;
+use crate::gets::Gets;
+use crate::receipts::{Receipts, Source};
 use crate::tallies::Tallies;
 use collation::{Direction, Job, Text};
 use command::{Answer, DataCommand, Extent};
@@ -66,19 +68,18 @@ impl Model for Journal {
 /// Says that a unit stands in the journal. It can't be copied.
 #[derive(Drop)]
 pub struct Receipt {
-    job: Job,
-    number: u64,
-    before: Before<Journal>,
+    pub(crate) job: Job,
+    pub(crate) number: u64,
+    pub(crate) source: Source,
 }
 
 impl Model for Receipt {
-    ghost use Rattle.std.specs.Prelude.{unwrap_or};
-    ghost use Rattle.journal.specs.declared.unit.Unit.TheVariants.{End};
+    ghost use Rattle.journal.specs.Claims.{unit_from};
     ghost use Rattle.journal.specs.Kept.{Claim};
 
     ghost Value = { Claim };
 
-    ghost view = { λ r. record { job = r.job; number = r.number; unit = unwrap_or r.before.value.prepared (End r.job) } };
+    ghost view = { λ r. record { job = r.job; number = r.number; unit = unit_from r.source r.job } };
 }
 
 impl Receipt {
@@ -418,7 +419,7 @@ impl Journal {
         let Some(prepared) = self.prepared else {
             unreachable!()
         };
-        let before = Before::of(&*self);
+        let source = Source::Prepared(Before::of(&*self));
         self.log.push();
         if prepared.is_tallied {
             self.tallies.add(prepared.job);
@@ -427,8 +428,32 @@ impl Journal {
         Receipt {
             job: prepared.job,
             number: self.log.len(),
-            before,
+            source,
         }
+    }
+
+    /// Adds these $GETs as units, with the next numbers in their order: all of them, or none. Their bytes are copied as
+    /// they are. A unit that was prepared is gone.
+    ///
+    /// Refusals, after which the units are as they were: `StampsUsedUp` where the journal has no number for each of them;
+    /// `OutOfMemory`.
+    pub fn push_gets(&mut self, gets: &Gets) -> Result<Receipts, Refusal>
+        ensures units { OnOk result (self.new.units ≡ self.old.units ++ gets.now.units) }
+        ensures base { self.new.base ≡ self.old.base }
+        ensures ends { self.new.ends ≡ self.old.ends }
+        ensures none_left { self.new.prepared ≡ None }
+        ensures receipts { IfOk result (λ receipts. receipts ≡ claims_of (length self.old.units + 1) gets.now.units) }
+        ensures counted { OnOk result (length self.old.units + length gets.now.units < 2 ^ 64) }
+        ensures refused { OnErr result (self.new.units ≡ self.old.units) }
+        ensures cause { IfErr result (λ refusal. HasNoRoom refusal (length gets.now.units) (length self.old.units)) }
+    {
+        self.prepared = None;
+        self.log.clear_behind();
+        let number = self.log.len();
+        self.tallies.make_room(gets.job())?;
+        self.log.append(gets)?;
+        self.tallies.add_all(gets.job(), gets.len());
+        Ok(Receipts::of(gets, number))
     }
 
     /// What the dropped units leave: their number, the database, the locks, and a tally for each job.

@@ -13,6 +13,7 @@ ghost use Rattle.journal.specs.Stored.{Each, FitsUnit};
 use crate::Units;
 use crate::buffer::make_room;
 use crate::exchanges::ExchangeLog;
+use crate::gets::Gets;
 use crate::write::{
     push_back, push_end, push_get, push_kill, push_lock, push_lone, push_order, push_set,
     push_whole, write_end,
@@ -308,6 +309,23 @@ impl Log {
     {
         self.end = self.bytes.len();
         self.count += 1;
+    }
+
+    /// Adds these units at once behind the others. Where memory is refused all is as it was.
+    pub(crate) fn append(&mut self, gets: &Gets) -> Result<(), AllocError>
+        requires behind { self.old.behind ≡ [] }
+        requires number { length self.old.units + length gets.now.units < 2 ^ 64 }
+        ensures ok { OnOk result (self.new.units ≡ self.old.units ++ gets.now.units) }
+        ensures err { OnErr result (self.new.units ≡ self.old.units) }
+        ensures ends { self.new.ends ≡ self.old.ends }
+        ensures behind { self.new.behind ≡ [] }
+    {
+        let copied = self.bytes.extend_from_slice(gets.as_slice());
+        settle(&mut self.bytes, self.end, self.ends, copied)?;
+        let all = self.bytes.len();
+        self.end = all;
+        self.count += gets.len();
+        Ok(())
     }
 
     /// The first units are dropped: of those that are left these are the bytes, and the bytes before are given back.

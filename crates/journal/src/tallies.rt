@@ -1,5 +1,5 @@
 //! How many units each job has.
-ghost use Rattle.std.specs.Prelude.{◌≡◌, ◌<◌, ℕ, [], OnOk, IfOk, length};
+ghost use Rattle.std.specs.Prelude.{◌≡◌, ◌<◌, ◌+◌, ◌-◌, ◌^◌, ℕ, [], min, OnOk, IfOk, length};
 ghost use Rattle.journal.specs.Counting.{tally_in, one_more};
 
 use collation::Job;
@@ -63,6 +63,17 @@ impl Tallies {
     {
         let number = job.number() as usize;
         let count = self.counts[number].saturating_add(1);
+        self.counts[number] = count;
+    }
+
+    /// So many more of the job, whose number has room. Takes no memory.
+    pub(crate) fn add_all(&mut self, job: Job, more: u64)
+        requires { job < length self.old }
+        ensures this { tally_in self.new job ≡ min (tally_in self.old job + more) (2 ^ 64 - 1) }
+        ensures others { (q : ℕ) → (job ≡ q → ⊥) → tally_in self.new q ≡ tally_in self.old q }
+    {
+        let number = job.number() as usize;
+        let count = self.counts[number].saturating_add(more);
         self.counts[number] = count;
     }
 

@@ -9,9 +9,9 @@ use mathlib.Core.Option.{some, some-ne-none, some-injective}
 use lib.ListN.{get_elem?, length-append}
 use Rattle.atomic_table.proofs.Lists.{at_set, at_snoc}
 use Rattle.journal.specs.declared.unit.Unit.{Unit as JournalUnit}
-use Rattle.journal.specs.Kept.{Claim, job_of}
+use Rattle.journal.specs.Kept.{Claim, claims_of, job_of}
 use Rattle.pin_board.specs.declared.view.SeatView.{SeatView}
-use Rattle.pin_board.specs.Slips.{IsInJournal, AreInJournal, IsBeginning, IsNext, weigh, claims_of, AreAll, slips_in, units_in, SlipFacts, SlipsAddUp}
+use Rattle.pin_board.specs.Slips.{IsInJournal, AreInJournal, IsBeginning, IsNext, weigh, AreAll, slips_in, units_in, SlipFacts, SlipsAddUp}
 
 -- what a seat's slips weigh
 abbrev pub weight : (Claim → ℕ) → SeatView → ℕ

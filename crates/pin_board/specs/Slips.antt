@@ -4,7 +4,7 @@ use Rattle.std.specs.List.{All, sum_by}
 use mathlib.Core.Option.{some}
 use lib.ListN.{get_elem?}
 use Rattle.journal.specs.declared.unit.Unit.{Unit as JournalUnit}
-use Rattle.journal.specs.Kept.{Claim, job_of}
+use Rattle.journal.specs.Kept.{Claim, claims_of, job_of}
 use Rattle.pin_board.specs.declared.view.PinView.{PinView}
 use Rattle.pin_board.specs.declared.view.SeatView.{SeatView}
 
@@ -28,11 +28,6 @@ pub record IsNext (log : List JournalUnit) (c : Claim) : Type 0 where
 
 abbrev pub weigh : (Claim → ℕ) → List Claim → ℕ
 weigh h mine = sum_by h mine
-
--- the units of a journal with their numbers, the first of which has this
-abbrev pub claims_of : ℕ → List JournalUnit → List Claim
-claims_of n [] = []
-claims_of n (u ∷ us) = record { job = job_of u; number = n; unit = u } ∷ claims_of (n + 1) us
 
 -- these are the units of the journal, each at its number once
 abbrev pub AreAll : List JournalUnit → List Claim → Type 0

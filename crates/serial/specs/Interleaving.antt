@@ -6,7 +6,7 @@ use Rattle.command.specs.declared.request.Command.{Command}
 use Rattle.command.specs.declared.request.Reply.{Reply}
 use Rattle.journal.specs.declared.unit.Unit.{Unit as JournalUnit}
 use Rattle.std.specs.List.{sum_by}
-use Rattle.journal.specs.Kept.{Claim, job_of}
+use Rattle.journal.specs.Kept.{Claim, claims_of, job_of}
 use Rattle.journal.specs.Story.{Machine, nothing_done, told, story_of}
 use Rattle.serial.specs.Machine.{IsReply, AreReplies}
 
@@ -75,11 +75,6 @@ pub record IsOneRun (log : List JournalUnit) (s : Machine) (xs : List Told) : Ty
 abbrev pub OneInterleaving : Type 0
 OneInterleaving = (log : List JournalUnit) → (xs : List Told) → ((job : ℕ) → IsHistory log job 0 nothing_done (of_job job xs)) → AreWritten log 0 xs →
     (ys : List Told) × ((job : ℕ) → of_job job ys ≡ of_job job xs) × IsOneRun log nothing_done ys
-
--- the units of a journal with their numbers, the first of which has this
-abbrev pub claims_of : ℕ → List JournalUnit → List Claim
-claims_of n [] = []
-claims_of n (u ∷ us) = record { job = job_of u; number = n; unit = u } ∷ claims_of (n + 1) us
 
 -- these are the units of the journal, each at its number once
 abbrev pub AreAllClaims : List JournalUnit → List Claim → Type 0

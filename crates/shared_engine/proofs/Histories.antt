@@ -10,14 +10,13 @@ use Rattle.command.specs.declared.request.Command.TheVariants.{Halt}
 use Rattle.command.specs.declared.request.Reply.{Reply}
 use Rattle.command.specs.declared.request.Reply.TheVariants.{Finished}
 use Rattle.journal.specs.declared.unit.Unit.{Unit as JournalUnit}
-use Rattle.journal.specs.Kept.{Claim, job_of}
+use Rattle.journal.specs.Kept.{Claim}
 use Rattle.journal.specs.Story.{Machine, nothing_done, transaction_of}
-use Rattle.serial.specs.Interleaving.{Told, of_job, after_told, IsHistory, IsWritten, AreWritten, claims_of, AreAllClaims, IsClaimed, upto_of, after_all_told}
+use Rattle.serial.specs.Interleaving.{Told, of_job, after_told, IsHistory, IsWritten, AreWritten, AreAllClaims, IsClaimed, upto_of, after_all_told}
 use Rattle.serial.specs.laws.ByJob.{same_or_not}
 use Rattle.serial.specs.laws.Claims.{each_is_claimed}
 use Rattle.serial.specs.laws.Growing.{histories_grow}
 use Rattle.serial.specs.laws.Merging.{one_interleaving}
-use Rattle.pin_board.specs.Slips as slips
 use Rattle.pin_board.specs.Slips.{IsBeginning, weigh}
 use Rattle.shared_engine.specs.Receipts.{Book}
 use Rattle.shared_engine.specs.Sessions.{Held, halted}
@@ -239,10 +238,6 @@ all_wrote log k (t ∷ ts) told there = by_job (claimed_either (k + 1) (claims_i
     by_job (inl here) later = written_front k t.steps (steps_of ts) (wrote_one k t.steps t.books told.0.1 here)
     by_job (inr behind) later = written_back k t.steps (steps_of ts) (later behind)
 
-same_claims : (n : ℕ) (us : List JournalUnit) → slips.claims_of n us ≡ claims_of n us
-same_claims n [] = refl
-same_claims n (u ∷ us) = ap (λ (cs : List Claim). record { job = job_of u; number = n; unit = u } ∷ cs) (same_claims (n + 1) us)
-
 weigh_books : (h : Claim → ℕ) (bs : List Book) → sum_by h (claims_in bs) ≡ units_weigh h bs
 weigh_books h [] = refl
 weigh_books h (b ∷ bs) =
@@ -252,7 +247,7 @@ weigh_books h (b ∷ bs) =
     all ∙ ((λ i. own i + weigh_books h bs i) ∙ sym step)
 
 all_claims : (log : List JournalUnit) (bs : List Book) → AreAllUnits log bs → AreAllClaims log (claims_in bs)
-all_claims log bs all h = weigh_books h bs ∙ (sym (all h) ∙ ap (sum_by h) (same_claims 1 log))
+all_claims log bs all h = weigh_books h bs ∙ sym (all h)
 
 pub one_run : SessionsAreOneRun
 one_run log all told units =

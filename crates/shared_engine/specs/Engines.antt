@@ -4,14 +4,14 @@ use Rattle.std.specs.List.{All, sum_by}
 use Rattle.journal.specs.declared.unit.Unit.{Unit as JournalUnit}
 use Rattle.journal.specs.declared.unit.Unit.TheVariants.{Back, Whole, Lock}
 use Rattle.refusal.specs.declared.Refusal.{Refusal}
-use Rattle.journal.specs.Kept.{Claim, HasNoRoom}
+use Rattle.journal.specs.Kept.{Claim, claims_of, HasNoRoom}
 use Rattle.lock_name.specs.declared.lock.LockCommand.{LockCommand}
 use Rattle.validate_commit.specs.Verdicts.{has_been_overtaken}
 use Rattle.job_core.specs.Sessions.{Session as JobSession}
 use Rattle.job_core.specs.Common.{Common, HasTurned}
 use Rattle.atomic_table.specs.Seated.{TableId}
 use Rattle.pin_board.specs.Named.{DeskAt, FreeAt, free_at}
-use Rattle.pin_board.specs.Slips.{AreInJournal, IsBeginning, claims_of, weigh}
+use Rattle.pin_board.specs.Slips.{AreInJournal, IsBeginning, weigh}
 use Rattle.shared_engine.specs.Receipts.{Book, IsOwn, RisesFrom, of_receipts, claim}
 use Rattle.shared_engine.specs.Sessions.{Held, held, knowing, and_receipt, begun_anew, ended, noted_lock}
 use Rattle.shared_engine.specs.declared.locked.Ended.{Ended}

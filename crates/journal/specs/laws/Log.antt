@@ -2,6 +2,7 @@
 use Rattle.std.specs.Prelude.{◌≡◌, ℕ, ◌+◌, List, [], ◌∷◌, ◌++◌, length, Option, Some}
 use Rattle.std.specs.List.{flat_map}
 use Rattle.std.proofs.Common.{ap, sym, ◌∙◌, append-nil, refl, arith, length-append}
+use Rattle.std.proofs.lemmas.Grind.{flat_map-append}
 use Rattle.std.proofs.lemmas.List.{flat_map_more}
 use Rattle.std.proofs.lemmas.Option.{some_pair_parts}
 use Rattle.journal.specs.declared.unit.Unit.{Unit as JournalUnit}
@@ -36,6 +37,18 @@ stands_more bytes count us u h k = record {
   written = ap (λ t. t ++ unit_bytes u) h.written ∙ flat_map_more unit_bytes [] us u;
   number = omega (arith, h.number, length-append us (u ∷ []));
   fit = Each-more us u h.fit k;
+}
+
+-- the bytes of units behind those of others
+Each-joined : (us vs : List JournalUnit) → Each FitsUnit us → Each FitsUnit vs → Each FitsUnit (us ++ vs)
+Each-joined [] vs h k = k
+Each-joined (u ∷ us) vs h k = (h.0, Each-joined us vs h.1 k)
+
+pub stands_joined : (bytes more : List ℕ) (count others : ℕ) (us vs : List JournalUnit) → Stands bytes count us → Stands more others vs → Stands (bytes ++ more) (count + others) (us ++ vs)
+stands_joined bytes more count others us vs h k = record {
+  written = (λ i. h.written i ++ k.written i) ∙ sym (flat_map-append unit_bytes us vs);
+  number = omega (arith, h.number, k.number, length-append us vs);
+  fit = Each-joined us vs h.fit k.fit;
 }
 
 -- ---- no two lists of units have one log

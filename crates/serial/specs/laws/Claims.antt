@@ -5,8 +5,8 @@ use Rattle.std.specs.List.{sum_by}
 use Rattle.std.proofs.lemmas.Bool.{eqb-true}
 use Rattle.std.proofs.lemmas.List.Sums.{sum_by-cons}
 use Rattle.journal.specs.declared.unit.Unit.{Unit as JournalUnit}
-use Rattle.journal.specs.Kept.{Claim, job_of}
-use Rattle.serial.specs.Interleaving.{claims_of, IsClaimed, EachIsClaimed}
+use Rattle.journal.specs.Kept.{Claim, claims_of, job_of}
+use Rattle.serial.specs.Interleaving.{IsClaimed, EachIsClaimed}
 
 abbrev has_number : ℕ → Claim → ℕ
 has_number n c = cond (c.number == n) 1 0
