@@ -1,47 +1,68 @@
-//! A $GET outside a transaction in two parts: its value is read, and its unit is written later, where nothing was written
-//! meanwhile.
-ghost use Rattle.std.specs.Prelude.{◌≡◌, ◌≤◌, true, length, None, IfSome, IfOk, IfErr, OnOk, OnErr};
-ghost use Rattle.command.specs.declared.access.DataCommand.TheVariants.{Look};
-ghost use Rattle.command.specs.declared.access.Look.TheVariants.{Get};
-ghost use Rattle.command.specs.declared.access.Answer.TheVariants.{Value};
-ghost use Rattle.journal.specs.declared.unit.Unit.TheVariants.{Lone};
+//! Many $GETs of a job outside a transaction in two parts: their values are read and gathered with their units' bytes, and
+//! the units are written later in one go, where nothing was written meanwhile.
+ghost use Rattle.std.specs.Prelude.{◌≡◌, ◌≤◌, ◌∷◌, ◌++◌, [], true, length, IfSome, IfOk, IfErr, OnOk, OnErr};
+ghost use Rattle.journal.specs.Gathered.{got};
 ghost use Rattle.journal.specs.History.{initial, after};
+ghost use Rattle.journal.specs.Kept.{HasNoRoom};
 ghost use Rattle.serial.specs.Machine.{state_at};
 ghost use Rattle.validate_commit.specs.Agreement.{Agreement};
+ghost use Rattle.validate_commit.specs.Gathering.{AreRightGets};
 ghost use Rattle.version_store.specs.Versions.{content_now};
-ghost use Rattle.job_core.specs.Causes.{IsCauseOf};
-ghost use Rattle.job_core.specs.Common.{HasAdded};
+ghost use Rattle.job_core.specs.Common.{HaveAdded};
 ghost use Rattle.job_core.specs.Lent.{value_at};
 
 use crate::kernel::Core;
-use collation::{Job, Text};
+use crate::lent::bytes_of;
 use globals::OrderedView;
-use journal::Receipt;
+use journal::{Gets, Receipts};
 use key_codec::Key;
 use refusal::Refusal;
-use std::alloc::{AllocError, Global};
-use validate_commit::write_none;
+use std::alloc::AllocError;
+use validate_commit::write_gets;
 use version_store::KeyedStore;
 
-// A copy of the value that a reference has, or the empty one.
-fn copied(alloc: Global, store: &KeyedStore, key: &Key) -> Result<Text, AllocError>
-    ensures { IfOk result (λ value. value ≡ value_at key.now (content_now store.now)) }
+// Gathers a $GET of the value that a reference has, and puts the value behind these bytes: both, or neither.
+fn gather(
+    store: &KeyedStore,
+    key: &Key,
+    gets: &mut Gets,
+    values: &mut Vec<u8>,
+) -> Result<usize, AllocError>
+    ensures gathered { OnOk result (gets.new ≡ record { job = gets.old.job; units = gets.old.units ++ got gets.old.job key.now (value_at key.now (content_now store.now)) ∷ [] }) }
+    ensures copied { OnOk result (values.new.items ≡ values.old.items ++ value_at key.now (content_now store.now)) }
+    ensures size { IfOk result (λ size. size ≡ length (value_at key.now (content_now store.now))) }
+    ensures refused { OnErr result ((gets.new ≡ gets.old) × (values.new.items ≡ values.old.items)) }
 {
     let view = store.view_now();
-    match view.get(key) {
-        Some(value) => value.clone(),
-        None => Ok(Text::new(alloc)),
+    let value = bytes_of(view.get(key));
+    let before = values.len();
+    values.extend_from_slice(value)?;
+    match gets.push(key, value) {
+        Ok(()) => Ok(value.len()),
+        Err(AllocError) => {
+            values.truncate(before);
+            Err(AllocError)
+        }
     }
 }
 
 impl Core {
-    /// A copy of the value that a reference has, or the empty one. It is no command, and nothing is kept of it.
+    /// Gathers a $GET, answered with the value that the reference has now, or the empty one, and puts that value behind
+    /// these bytes. Answers how many bytes it has. It is no command yet, and nothing is kept of it here.
     ///
-    /// `AllocError` where there is no memory for it: a short one takes none.
-    pub fn copy_now(&self, alloc: Global, key: &Key) -> Result<Text, AllocError>
-        ensures { IfOk result (λ value. value ≡ value_at key.now (after self.now.units initial).map) }
+    /// `AllocError` where there is no memory for it: then neither has changed.
+    pub fn gather_get(
+        &self,
+        key: &Key,
+        gets: &mut Gets,
+        values: &mut Vec<u8>,
+    ) -> Result<usize, AllocError>
+        ensures gathered { OnOk result (gets.new ≡ record { job = gets.old.job; units = gets.old.units ++ got gets.old.job key.now (value_at key.now (after self.now.units initial).map) ∷ [] }) }
+        ensures copied { OnOk result (values.new.items ≡ values.old.items ++ value_at key.now (after self.now.units initial).map) }
+        ensures size { IfOk result (λ size. size ≡ length (value_at key.now (after self.now.units initial).map)) }
+        ensures refused { OnErr result ((gets.new ≡ gets.old) × (values.new.items ≡ values.old.items)) }
     {
-        copied(alloc, &self.store, key)
+        gather(&self.store, key, gets, values)
     }
 
     /// Whether the database is known to be as it was when there were so many units: nothing was written since. Takes no
@@ -58,28 +79,21 @@ impl Core {
         self.store.latest() <= number
     }
 
-    /// A $GET without a default of a job outside a transaction, a unit of its own: as `get_lone`, but its value is
-    /// known, and nothing is looked up.
+    /// Makes $GETs that were gathered units, in their order: as `get_lone` of each, in one go. Each was answered what the
+    /// database answers now. Nothing is looked up.
     ///
-    /// Refusals, after which nothing has changed: those of `get_lone`.
-    pub fn get_lone_known(
-        &mut self,
-        job: Job,
-        key: &Key,
-        value: &Text,
-        oldest: Option<u64>,
-    ) -> Result<Receipt, Refusal>
+    /// Refusals, after which nothing has changed: `StampsUsedUp` where the journal has no number for each of them;
+    /// `OutOfMemory`.
+    pub fn add_gets(&mut self, gets: &Gets, oldest: Option<u64>) -> Result<Receipts, Refusal>
+        requires some { 1 ≤ length gets.now.units }
+        requires right { AreRightGets (after self.old.units initial).map gets.now.units }
         requires oldest { IfSome oldest (λ stamp. stamp ≤ length self.old.units) }
-        requires known { value.now ≡ value_at key.now (after self.old.units initial).map }
-        ensures added { IfOk result (λ receipt. HasAdded (Lone job (Look (Get key.now None)) (Value value.now)) receipt oldest self.old self.new) }
+        ensures added { IfOk result (λ receipts. HaveAdded gets.now.units receipts oldest self.old self.new) }
         ensures versions { OnOk result (self.new.store.versions ≡ self.old.store.versions) }
         ensures refused { OnErr result (self.new ≡ self.old) }
-        ensures cause { IfErr result (λ refusal. IsCauseOf refusal (Look (Get key.now None)) (after self.old.units initial).map (length self.old.units)) }
+        ensures cause { IfErr result (λ refusal. HasNoRoom refusal (length gets.now.units) (length self.old.units)) }
         ensures agreed { Agreement self.new.store self.new.units }
     {
-        match self.journal.prepare_get(job, key, value.as_slice()) {
-            Ok(()) => Ok(write_none(&mut self.store, &mut self.journal, oldest)),
-            Err(refusal) => Err(refusal),
-        }
+        write_gets(&mut self.store, &mut self.journal, gets, oldest)
     }
 }

@@ -213,7 +213,7 @@ pub(crate) fn prepare_ordered(
 }
 
 // The bytes of a value, and none where there is none.
-fn bytes_of(found: Option<&Text>) -> &[u8]
+pub(crate) fn bytes_of(found: Option<&Text>) -> &[u8]
     ensures { result.now ≡ unwrap_or (option_copied found.entry) [] }
 {
     match found {

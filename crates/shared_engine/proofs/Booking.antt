@@ -25,7 +25,7 @@ pub in_journal_receipts : (log : List JournalUnit) (mine : List Claim) → AreIn
 unfolding receipts_in
 in_journal_receipts log mine s = record { each = All-filter gives (IsInJournal log) mine s.each }
 
-receipts_push : (mine : List Claim) (c : Claim) → has_receipt c.unit ≡ true → receipts_in (mine ++ c ∷ []) ≡ receipts_in mine ++ c ∷ []
+pub receipts_push : (mine : List Claim) (c : Claim) → has_receipt c.unit ≡ true → receipts_in (mine ++ c ∷ []) ≡ receipts_in mine ++ c ∷ []
 unfolding receipts_in
 receipts_push mine c has = filter-append gives mine (c ∷ []) ∙ ap (λ (b : Bool). filter gives mine ++ cond b (c ∷ []) []) has
 
@@ -41,7 +41,7 @@ others_push : (mine : List Claim) (c : Claim) → has_receipt c.unit ≡ false �
 unfolding others_in
 others_push mine c has = filter-append gives_none mine (c ∷ []) ∙ ap (λ (b : Bool). filter gives_none mine ++ cond (not b) (c ∷ []) []) has
 
-others_quiet : (mine : List Claim) (c : Claim) → has_receipt c.unit ≡ true → others_in (mine ++ c ∷ []) ≡ others_in mine
+pub others_quiet : (mine : List Claim) (c : Claim) → has_receipt c.unit ≡ true → others_in (mine ++ c ∷ []) ≡ others_in mine
 unfolding others_in
 others_quiet mine c has = filter-append gives_none mine (c ∷ []) ∙ (ap (λ (b : Bool). filter gives_none mine ++ cond (not b) (c ∷ []) []) has ∙ append-nil (filter gives_none mine))
 
@@ -57,7 +57,7 @@ pub book_nothing : (job : ℕ) → IsBook job [] []
 unfolding receipts_in
 book_nothing job = record { numbers_are = refl; own = All-nil (λ (c : Claim). job_of c.unit ≡ job); rising = tt }
 
-book_push : (job : ℕ) (ns : List ℕ) (mine : List Claim) (log : List JournalUnit) (c : Claim) → IsBook job ns mine → AreInJournal log mine → IsNext log c → has_receipt c.unit ≡ true → job_of c.unit ≡ job → IsBook job (ns ++ c.number ∷ []) (mine ++ c ∷ [])
+pub book_push : (job : ℕ) (ns : List ℕ) (mine : List Claim) (log : List JournalUnit) (c : Claim) → IsBook job ns mine → AreInJournal log mine → IsNext log c → has_receipt c.unit ≡ true → job_of c.unit ≡ job → IsBook job (ns ++ c.number ∷ []) (mine ++ c ∷ [])
 book_push job ns mine log c b s next has own =
     let n = next.number in record {
       numbers_are = ap (map number_of) (receipts_push mine c has) ∙ (map-append number_of (receipts_in mine) (c ∷ []) ∙ ap (λ (l : List ℕ). l ++ c.number ∷ []) b.numbers_are);

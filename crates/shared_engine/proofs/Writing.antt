@@ -10,11 +10,11 @@ use Rattle.job_core.specs.Sessions.{Session as JobSession, idle}
 use Rattle.pin_board.specs.declared.view.DeskView.{DeskView}
 use Rattle.pin_board.specs.declared.view.PinView.{PinView}
 use Rattle.pin_board.specs.Views.{wrote, aware, rested}
-use Rattle.pin_board.specs.Slips.{AreInJournal, IsBeginning}
+use Rattle.pin_board.specs.Slips.{AreInJournal, IsBeginning, IsNext}
 use Rattle.shared_engine.specs.Receipts.{has_receipt, receipts_in, others_in, claim, book, IsBook}
 use Rattle.shared_engine.specs.Sessions.{Held, held, start_in, GoesOnFromStart, IsSession, knowing, and_receipt, went_back, halted, noted_lock}
 use Rattle.shared_engine.specs.laws.Told.{others_back}
-use Rattle.shared_engine.proofs.Booking.{book_nothing, receipts_nothing, booked_next, booked_quiet, received, received_none, others_same, others_more, others_nothing}
+use Rattle.shared_engine.proofs.Booking.{book_push, receipts_push, others_quiet, book_nothing, receipts_nothing, booked_next, booked_quiet, received, received_none, others_same, others_more, others_nothing}
 use Rattle.shared_engine.proofs.Starting.{start_free, at_noted, noted_work}
 use Rattle.shared_engine.proofs.Prefixes.{start_later, start_longer, start_none}
 
@@ -52,6 +52,27 @@ view_next u told oldest old new desk s pin later log h step has =
     let more = received u told oldest old new pin.mine later.mine h (ap (λ (p : PinView). p.mine) step) has in
     let same = others_same u told oldest old new pin.mine later.mine h (ap (λ (p : PinView). p.mine) step) has in
     let seen = seen_next u told oldest old new desk pin later log h step in
+    λ i. held s (start i) (more i) (same i) (seen i)
+
+-- a receipt that was told of the unit behind those on the board
+pub session_taken : (desk : DeskView) (s : JobSession) (pin later : PinView) (ns more : List ℕ) (c : Claim) → IsSession s pin ns → AreInJournal desk.log pin.mine → IsBeginning desk.log pin.seen → IsNext desk.log c → later ≡ wrote desk pin c → more ≡ ns ++ c.number ∷ [] → has_receipt c.unit ≡ true
+    → job_of c.unit ≡ s.work.job → IsSession s later more
+session_taken desk s pin later ns more c is in_log goes_on next step m has own = record {
+  place = ap (λ (p : PinView). p.place + 1) step ∙ is.place;
+  slip = ap (λ (p : PinView). p.slips) step ∙ is.slip;
+  at = rw (ap start_in step) is.at;
+  start = start_written desk c pin later step goes_on is.start;
+  book = rw (ap (λ (p : PinView). p.mine) step, m) (book_push s.work.job ns pin.mine desk.log c is.book in_log next has own);
+}
+
+pub view_taken : (desk : DeskView) (s : JobSession) (pin later : PinView) (c : Claim) → IsNext desk.log c → later ≡ wrote desk pin c → has_receipt c.unit ≡ true → shown s later ≡ and_receipt desk.log c.unit (shown s pin)
+view_taken desk s pin later c next step has =
+    let told : c ≡ claim (length desk.log + 1) c.unit = λ i. record { job = next.job i; number = next.number i; unit = c.unit } in
+    let mine = ap (λ (p : PinView). p.mine) step in
+    let start : start_in later ≡ start_in pin = ap start_in step in
+    let more = ap receipts_in mine ∙ (receipts_push pin.mine c has ∙ ap (λ (x : Claim). receipts_in pin.mine ++ x ∷ []) told) in
+    let same = ap others_in mine ∙ others_quiet pin.mine c has in
+    let seen = ap (λ (p : PinView). p.seen) step in
     λ i. held s (start i) (more i) (same i) (seen i)
 
 -- a unit that gives none

@@ -1,6 +1,6 @@
 -- Lines that are done under one hold of the lock: what they ask, and what they are told. Read Lines, then commands_of and
 -- served_of.
-use Rattle.std.specs.Prelude.{◌≡◌, ℕ, List, [], ◌∷◌, ◌++◌, length, take, drop, map, Option, None, Result, Ok, Err}
+use Rattle.std.specs.Prelude.{◌≡◌, ◌≤◌, ℕ, List, [], ◌∷◌, ◌++◌, length, take, drop, map, Option, None, Result, Ok, Err}
 use Rattle.refusal.specs.declared.Refusal.{Refusal}
 use Rattle.collation.specs.Reference.{Reference}
 use Rattle.collation.specs.Database.{Database}
@@ -9,13 +9,14 @@ use Rattle.command.specs.declared.access.DataCommand.TheVariants.{Set, Look}
 use Rattle.command.specs.declared.access.Look.TheVariants.{Get}
 use Rattle.command.specs.declared.access.Answer.{Answer}
 use Rattle.command.specs.declared.access.Answer.TheVariants.{Done, Value}
-use Rattle.command.specs.Data.{data_reply}
 use Rattle.command.specs.declared.request.Command.{Command}
 use Rattle.command.specs.declared.request.Command.TheVariants.{Access}
 use Rattle.command.specs.declared.request.Reply.{Reply}
 use Rattle.command.specs.declared.request.Reply.TheVariants.{Answered, Refused}
 use Rattle.journal.specs.declared.unit.Unit.{Unit as JournalUnit}
+use Rattle.journal.specs.Gathered.{Gathered, got}
 use Rattle.journal.specs.History.{initial, after}
+use Rattle.job_core.specs.Lent.{value_at}
 use Rattle.shared_engine.specs.declared.asked.Ask.{Ask}
 use Rattle.shared_engine.specs.declared.asked.Ask.TheVariants.{Set as ask_set, Get as ask_get, Other as ask_other}
 use Rattle.shared_engine.specs.declared.told.Tag.{Tag}
@@ -42,18 +43,24 @@ get_of key = Look (Get key None)
 abbrev pub IsSet : DataCommand → Type 0
 IsSet command = (key : Reference) × (value : List ℕ) × (command ≡ Set key value)
 
--- the value that an answer says, the empty one where it is no value
-abbrev pub value_said : Answer → List ℕ
-value_said (Value value) = value
-value_said other = []
+-- a job's $GETs of these keys as units, each answered with the value on a map
+abbrev pub gets_on : ℕ → Database → List Reference → List JournalUnit
+gets_on job m keys = map (λ key. got job key (value_at key m)) keys
 
--- these are the values that the commands are answered with on a map
-abbrev pub AreValuesOn : Database → List DataCommand → List (List ℕ) → Type 0
-AreValuesOn m commands values = values ≡ map (λ command. value_said (data_reply command m)) commands
+-- the replies to $GETs of these keys on a map
+abbrev pub values_on : Database → List Reference → List Reply
+values_on m keys = map (λ key. Answered (Value (value_at key m))) keys
 
--- the values that the commands were answered with when there were just these units
-abbrev pub IsAhead : ℕ → List JournalUnit → List DataCommand → List (List ℕ) → Type 0
-IsAhead number units commands values = (number ≡ length units) × AreValuesOn (after units initial).map commands values
+-- the commands are $GETs, which lie there as units of the job, and so do their replies, as they were when there were just so
+-- many units, these
+pub record IsAhead (job number : ℕ) (units : List JournalUnit) (commands : List DataCommand) (gets : Gathered) (served : List Reply) : Type 0 where
+  pub keys : List Reference
+  pub some : 1 ≤ length keys
+  pub asked : commands ≡ map get_of keys
+  pub counted : number ≡ length units
+  pub owner : gets.job ≡ job
+  pub gathered : gets.units ≡ gets_on job (after units initial).map keys
+  pub told : served ≡ values_on (after units initial).map keys
 
 -- data commands as a session's commands
 abbrev pub accesses : List DataCommand → List Command

@@ -59,6 +59,11 @@ knowing units s = held s.state s.start s.receipts s.others units
 abbrev pub and_receipt : List JournalUnit → JournalUnit → Held → Held
 and_receipt units unit s = held s.state s.start (s.receipts ++ claim (length units + 1) unit ∷ []) s.others (units ++ unit ∷ [])
 
+-- a receipt for each of these units, which stand in a row
+abbrev pub and_receipts : List JournalUnit → List JournalUnit → Held → Held
+and_receipts units [] s = s
+and_receipts units (u ∷ us) s = and_receipts (units ++ u ∷ []) us (and_receipt units u s)
+
 -- a transaction that took a LOCK has gone back, as the last of these units
 abbrev pub went_back : List JournalUnit → Held → Held
 went_back units s =

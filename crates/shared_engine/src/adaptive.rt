@@ -23,9 +23,9 @@ const EARLY_TRIES: u32 = 16;
 // The same for who is patient, before it does as the others.
 const PATIENT_TRIES: u32 = 32;
 
-const PATIENT_LOOKS: u32 = 2_048;
+const PATIENT_LOOKS: u32 = 96;
 
-const PATIENT_EARLY_TRIES: u32 = 4;
+const PATIENT_EARLY_TRIES: u32 = 28;
 
 /// How a thread waits for the lock alone.
 #[derive(Clone, Copy)]
@@ -33,8 +33,8 @@ pub(crate) enum Patience {
     /// It tries often, and from its first try in vain on those who would share the lock hold back. For a commit, say,
     /// which takes less time than the next reads of the others.
     Short,
-    /// It tries seldom, and for a while nobody holds back for it. For lone commands: whoever has the lock does many of
-    /// them one after the other then, before all that they touch goes to another core.
+    /// For a while nobody holds back for it. For lone commands: whoever has the lock does many of them one after the
+    /// other, and who would share it gathers others meanwhile.
     Long,
 }
 
@@ -127,7 +127,7 @@ impl<T> AdaptiveLock<T> {
         guard
     }
 
-    // The lock alone, if it is free at one of some seldom tries. Nobody holds back meanwhile.
+    // The lock alone, if it is free at one of some tries. Nobody holds back meanwhile.
     fn wait_patiently(&self) -> Option<RwLockWriteGuard<'_, T>> {
         for tries in 0..PATIENT_TRIES {
             self.rest(tries < PATIENT_EARLY_TRIES, PATIENT_LOOKS);

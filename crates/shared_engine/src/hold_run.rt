@@ -27,6 +27,7 @@ use crate::under::Under;
 use command::DataCommand;
 use pin_board::{Board, Lifted};
 use refusal::Refusal;
+use std::mem;
 use std::sync::{RwLockWriteGuard, Wait};
 
 impl Locked {
@@ -171,8 +172,8 @@ impl Locked {
         }
     }
 
-    // All lines of a hold, outside a transaction: where their values were read before, and are so still, nothing is looked
-    // up.
+    // All lines of a hold, outside a transaction: where they were gathered before, and are right still, nothing is looked
+    // up, and they are told what lies there.
     fn lone_or_known(
         &mut self,
         board: &Board,
@@ -180,13 +181,15 @@ impl Locked {
         session: &mut InnerSession,
         asked: &mut Asked,
         told: &mut Tolds,
-        ahead: &Option<Ahead>,
+        ahead: &mut Option<Ahead>,
     )
         requires own { (desk.old.table ≡ board.now.table) × (session.old.table ≡ board.now.table) }
         requires stands { IsLocked self.old.core desk.old self.old.seats self.old.horizon self.old.opened }
         requires level { session.old.held.state.level ≡ 0 }
         requires seen { session.old.held.seen ≡ self.old.core.units }
-        requires known { IfSome ahead.now (λ read. (base : List JournalUnit) × IsBeginning self.old.core.units base × IsAhead read.number base asked.old.commands read.values.items) }
+        requires known { IfSome ahead.old (λ read. (base : List JournalUnit) × IsBeginning self.old.core.units base × IsAhead session.old.held.state.work.job read.number base asked.old.commands read.gets read.told.served) }
+        requires kept { IfSome ahead.old (λ read. asked.old.room ≤ read.told.room) }
+        requires spare { length asked.old.commands + asked.old.room ≤ told.old.room }
         requires room { (length asked.old.commands ≤ told.old.room) × (asked.old.others ≤ told.old.answers) }
         requires none { told.old.served ≡ [] }
         ensures table { (desk.new.table ≡ desk.old.table) × (session.new.table ≡ session.old.table) }
@@ -194,17 +197,17 @@ impl Locked {
         ensures done { AreDone (accesses asked.old.commands) told.new.served self.old.core.units self.new.core.units session.old.held session.new.held }
         ensures seen { session.new.held.seen ≡ self.new.core.units }
         ensures left { asked.new.commands ≡ [] }
-        ensures room { (asked.new.room ≡ asked.old.room) × (told.new.room + length asked.old.commands ≡ told.old.room) }
+        ensures room { (asked.new.room ≡ asked.old.room) × (asked.new.room ≤ told.new.room) }
         ensures answers { asked.new.others ≤ told.new.answers }
         ensures others { (desk.new.knows.given ≡ desk.old.knows.given) × (self.new.seats ≡ self.old.seats) }
     {
         if let Some(read) = ahead {
-            if self.core.is_as_at(read.number) {
-                if let Some(keys) = asked.gets() {
-                    self.known_gets(board, desk, session, keys, &read.values, told);
-                    asked.pass_all();
-                    return;
-                }
+            if self.core.is_as_at(read.number)
+                && self.known_gets(board, desk, session, &read.gets).is_ok()
+            {
+                mem::swap(told, &mut read.told);
+                asked.pass_all();
+                return;
             }
         }
         self.lone_lines(board, desk, session, asked, told);
@@ -218,13 +221,14 @@ impl Locked {
         desk: &mut Lifted,
         session: &mut InnerSession,
         hold: &mut Hold,
-        ahead: &Option<Ahead>,
+        ahead: &mut Option<Ahead>,
     )
         requires own { (desk.old.table ≡ board.now.table) × (session.old.table ≡ board.now.table) }
         requires stands { IsLocked self.old.core desk.old self.old.seats self.old.horizon self.old.opened }
         requires level { session.old.held.state.level ≡ 0 }
         requires none { hold.old.served ≡ [] }
-        requires known { IfSome ahead.now (λ read. IsAhead read.number session.old.held.seen hold.old.commands read.values.items) }
+        requires known { IfSome ahead.old (λ read. IsAhead session.old.held.state.work.job read.number session.old.held.seen hold.old.commands read.gets read.told.served) }
+        requires kept { IfSome ahead.old (λ read. hold.old.room ≤ read.told.room) }
         ensures table { (desk.new.table ≡ desk.old.table) × (session.new.table ≡ session.old.table) }
         ensures stands { IsLocked self.new.core desk.new self.new.seats self.new.horizon self.new.opened }
         ensures done { AreDone (accesses hold.old.commands) hold.new.served self.old.core.units self.new.core.units (knowing self.old.core.units session.old.held) session.new.held }
@@ -494,12 +498,13 @@ impl<B: BoardName> Shared<B> {
         guard: RwLockWriteGuard<'_, Under<B>>,
         session: &mut Session<B>,
         hold: &mut Hold,
-        ahead: &Option<Ahead>,
+        ahead: &mut Option<Ahead>,
         turn: &mut Turn,
     )
         requires level { session.old.state.level ≡ 0 }
         requires none { hold.old.served ≡ [] }
-        requires known { IfSome ahead.now (λ read. IsAhead read.number session.old.seen hold.old.commands read.values.items) }
+        requires known { IfSome ahead.old (λ read. IsAhead session.old.state.work.job read.number session.old.seen hold.old.commands read.gets read.told.served) }
+        requires kept { IfSome ahead.old (λ read. hold.old.room ≤ read.told.room) }
         ensures done { (units : List JournalUnit) × IsJournalOf units session.old × AreDone (accesses hold.old.commands) hold.new.served units session.new.seen (knowing units session.old) session.new }
         ensures places { hold.new.places ≡ hold.old.places }
         ensures each { length hold.new.served ≡ length hold.old.commands }
@@ -536,12 +541,12 @@ impl<B: BoardName> Shared<B> {
         ensures turn { MayBeTaken turn.old turn.new }
     {
         if let Some(guard) = self.lock.write_at_once() {
-            self.hold_under(rt, guard, session, hold, &None, turn);
+            self.hold_under(rt, guard, session, hold, &mut None, turn);
             return;
         }
-        let ahead = self.read_ahead(rt, &mut session.inner, hold);
+        let mut ahead = self.read_ahead(rt, &mut session.inner, hold);
         let guard = self.lock.write(rt, Patience::Long);
-        self.hold_under(rt, guard, session, hold, &ahead, turn);
+        self.hold_under(rt, guard, session, hold, &mut ahead, turn);
     }
 
     /// Does the commands of a hold in a session's open transaction, in order, each as `read` does it, under one hold of

@@ -20,8 +20,8 @@
 //! (`IsLocked` of `specs/Engines.antt`): the store's cut isn't above the greatest horizon, and by the board's rule no
 //! horizon is above a settled start.
 //!
-//! A hold of $GETs that finds the lock taken reads their values under the shared lock first, and writes only their units
-//! once it has the lock alone, if nothing was written until then (`src/ahead.rt`).
+//! A hold of $GETs that finds the lock taken reads and gathers them under the shared lock first, and writes their units
+//! in one go once it has the lock alone, if nothing was written until then (`src/ahead.rt`).
 //!
 //! Inside, which board a session is of is a value that its clauses see (`specs/Named.antt`, `src/inner.rt`). Outside it is
 //! a type, `BoardName`, under which `Session`, `Pass` and `Under` (`src/under.rt`) wrap what is inside.
