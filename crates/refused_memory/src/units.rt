@@ -1,12 +1,13 @@
 //! Units of all five kinds, pushed to a journal and had back from its bytes: each is the one that was pushed. Their keys
 //! have from 2 to 64 bytes, and the longest there is. After a refusal the journal is as it was, and the unit is pushed
-//! when it is tried again.
+//! when it is tried again. So are $GETs that were gathered before.
 use journal::Journal;
 use made::push_unit_to;
 use read_back::is_made;
 use refusal::Refusal;
 use std::alloc::Global;
 
+mod gathered;
 mod lines;
 mod made;
 mod read_back;
@@ -67,9 +68,11 @@ pub fn difference(
     count: u64,
     refused: &mut u64,
 ) -> Result<Option<&'static str>, Refusal> {
-    if run(alloc, count, refused)? {
-        Ok(None)
-    } else {
-        Ok(Some("the units"))
+    if !run(alloc, count, refused)? {
+        return Ok(Some("the units"));
     }
+    if !gathered::is_right(alloc, refused)? {
+        return Ok(Some("the gathered units"));
+    }
+    Ok(None)
 }

@@ -57,7 +57,8 @@ pub fn lock_of(alloc: Global, n: u64) -> Result<LockCommand, Refusal> {
     }
 }
 
-fn found_of(alloc: Global, n: u64) -> Result<Key, Refusal> {
+/// The nth key.
+pub fn found_of(alloc: Global, n: u64) -> Result<Key, Refusal> {
     let mut line = Vec::new(alloc);
     push_reference(&mut line, n)?;
     let mut draft = KeyDraft::new(alloc);
