@@ -1,6 +1,6 @@
 -- $GETs of a hold that were gathered before.
 use Rattle.std.proofs.Common.{◌≡◌, ℕ, suc, true≢false, ◌+◌, ◌<◌, ◌≤◌, List, [], ◌∷◌, ◌++◌, take, length, refl, sym, ap, ◌∙◌, subst, length-append, append_assoc, append-nil, arith}
-use Rattle.std.specs.Prelude.{map, true, is_ok, Result, Ok, Err, Option, Some, None, OnOk, OnErr, IfErr, IfSome}
+use Rattle.std.specs.Prelude.{map, true, is_ok, Result, Ok, Err, Option, Some, None, OnSome, OnOk, OnErr, IfErr, IfSome}
 use Rattle.std.specs.List.{All}
 use Rattle.std.proofs.lemmas.List.{length-map}
 use Rattle.std.proofs.lemmas.List.Elements.{All-nil, All-cons, All-head, All-tail}
@@ -29,7 +29,7 @@ use Rattle.shared_engine.specs.Receipts.{has_receipt}
 use Rattle.shared_engine.specs.Sessions.{Held, knowing, and_receipt, and_receipts, IsJournalOf, IsSession}
 use Rattle.shared_engine.specs.Blocks.{HasDone, AreDone}
 use Rattle.shared_engine.specs.laws.Prefixes.{begins_through}
-use Rattle.shared_engine.specs.Holds.{accesses, get_of, gets_on, values_on, IsAhead}
+use Rattle.shared_engine.specs.Holds.{accesses, get_of, gets_on, values_on, AreGathered, IsAhead}
 use Rattle.shared_engine.proofs.Serving.{lone_get_done}
 use Rattle.shared_engine.proofs.Writing.{shown, session_taken, view_taken}
 
@@ -46,10 +46,33 @@ map_known base units number begins counted same = ap (λ (us : List JournalUnit)
 pub right_known : (job number : ℕ) (base units : List JournalUnit) (commands : List DataCommand) (gets : Gathered) (served : List Reply) → IsBeginning units base → IsAhead job number base commands gets served → (after units initial).map ≡ (state_at number units).map
     → AreRightGets (after units initial).map gets.units
 right_known job number base units commands gets served begins is same =
-    subst (λ us. AreRightGets (after units initial).map us) (sym is.gathered) (subst (λ m. AreRightGets m (gets_on job (after base initial).map is.keys)) (map_known base units number begins is.counted same) (gets_right job (after base initial).map is.keys))
+    subst (λ us. AreRightGets (after units initial).map us) (sym is.are.gathered) (subst (λ m. AreRightGets m (gets_on job (after base initial).map is.keys)) (map_known base units number begins is.are.counted same) (gets_right job (after base initial).map is.keys))
 
 pub some_known : (job number : ℕ) (base : List JournalUnit) (commands : List DataCommand) (gets : Gathered) (served : List Reply) → IsAhead job number base commands gets served → 1 ≤ length gets.units
-some_known job number base commands gets served is = omega (arith, is.some, ap length is.gathered, length-map is.keys (λ key. got job key (value_at key (after base initial).map)))
+some_known job number base commands gets served is = omega (arith, is.some, ap length is.are.gathered, length-map is.keys (λ key. got job key (value_at key (after base initial).map)))
+
+-- ---- some at a time
+
+-- those of further keys are gathered as the session sees the journal now
+pub gathered_on : {A : Type 0} (r : Option A) (units : List JournalUnit) (old new : Held) (number next : ℕ) (keys : List Reference) (gets more : Gathered) (served told : List Reply) → IsJournalOf units old → new ≡ knowing units old
+    → OnSome r ((job : ℕ) (base : List JournalUnit) (before : List Reference) → IsBeginning units base → AreGathered job number base before gets served → AreGathered job next units (before ++ keys) more told)
+    → OnSome r ((job : ℕ) (before : List Reference) → AreGathered job number old.seen before gets served → AreGathered job next new.seen (before ++ keys) more told)
+gathered_on (Some x) units old new number next keys gets more served told journal same all =
+    λ job before are. subst (λ us. AreGathered job next us (before ++ keys) more told) (sym (ap (λ (s : Held). s.seen) same)) (all job old.seen before journal.goes_on are)
+gathered_on None units old new number next keys gets more served told journal same all = all
+
+-- a piece of the keys that are left
+pub asked_on : (commands : List DataCommand) (before left piece behind : List Reference) → left ≡ piece ++ behind → commands ≡ map get_of (before ++ left) → commands ≡ map get_of ((before ++ piece) ++ behind)
+asked_on commands before left piece behind split asked = asked ∙ ap (λ ks. map get_of ks) (ap (λ ks. before ++ ks) split ∙ sym (append_assoc before piece behind))
+
+pub some_on : (before left piece behind : List Reference) → left ≡ piece ++ behind → 1 ≤ length (before ++ left) → 1 ≤ length ((before ++ piece) ++ behind)
+some_on before left piece behind split some = subst (λ ks. 1 ≤ length ks) (ap (λ ks. before ++ ks) split ∙ sym (append_assoc before piece behind)) some
+
+-- none is left
+pub gathered_all : (job number : ℕ) (units : List JournalUnit) (commands : List DataCommand) (before left : List Reference) (gets : Gathered) (served : List Reply) → left ≡ [] → commands ≡ map get_of (before ++ left) → 1 ≤ length (before ++ left) → AreGathered job number units before gets served → IsAhead job number units commands gets served
+gathered_all job number units commands before left gets served none asked some are =
+    let all : before ++ left ≡ before = ap (λ ks. before ++ ks) none ∙ append-nil before in
+    record { keys = before; some = subst (λ ks. 1 ≤ length ks) all some; asked = asked ∙ ap (λ ks. map get_of ks) all; are = are }
 
 -- $GETs one after the other, each done
 pub gets_done : (job : ℕ) (m : Database) (keys : List Reference) (units : List JournalUnit) (s : Held) → s.state.level ≡ 0 → s.state.work.job ≡ job → (after units initial).map ≡ m
@@ -73,8 +96,8 @@ pub known_done : (job number : ℕ) (base units more : List JournalUnit) (comman
     → job ≡ old.state.work.job → more ≡ units ++ gets.units → new ≡ and_receipts units gets.units old → told ≡ served → AreDone (accesses commands) told units more old new
 known_done job number base units more commands gets served told old new begins is same level owner longer receipts are =
     let m = (after base initial).map in
-    let all = gets_done job m is.keys units old level (sym owner) (sym (map_known base units number begins is.counted same)) in
-    rw (is.asked, are ∙ is.told, longer ∙ ap (λ us. units ++ us) is.gathered, receipts ∙ ap (λ us. and_receipts units us old) is.gathered) all
+    let all = gets_done job m is.keys units old level (sym owner) (sym (map_known base units number begins is.are.counted same)) in
+    rw (is.asked, are ∙ is.are.told, longer ∙ ap (λ us. units ++ us) is.are.gathered, receipts ∙ ap (λ us. and_receipts units us old) is.are.gathered) all
 
 -- ---- receipts, one by one
 
@@ -93,7 +116,7 @@ gets_own job m [] = All-nil (IsGetOf job)
 gets_own job m (key ∷ keys) = All-cons (IsGetOf job) (got job key (value_at key m)) (gets_on job m keys) (key, value_at key m, refl) (gets_own job m keys)
 
 pub own_known : (job number : ℕ) (base : List JournalUnit) (commands : List DataCommand) (gets : Gathered) (served : List Reply) → IsAhead job number base commands gets served → AreGets gets
-own_known job number base commands gets served is = subst (λ j. All (IsGetOf j) gets.units) (sym is.owner) (subst (All (IsGetOf job)) (sym is.gathered) (gets_own job (after base initial).map is.keys))
+own_known job number base commands gets served is = subst (λ j. All (IsGetOf j) gets.units) (sym is.are.owner) (subst (All (IsGetOf job)) (sym is.are.gathered) (gets_own job (after base initial).map is.keys))
 
 -- before the first of them
 pub noted_first : (state : JobSession) (units all gets : List JournalUnit) (receipts : List Claim) (log : List JournalUnit) (pin : PinView) (ns numbers : List ℕ) → IsSession state pin ns → numbers ≡ ns → log ≡ units → all ≡ units ++ gets → receipts ≡ claims_of (length units + 1) gets → All (IsGetOf state.work.job) gets

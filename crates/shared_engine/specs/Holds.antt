@@ -51,16 +51,20 @@ gets_on job m keys = map (λ key. got job key (value_at key m)) keys
 abbrev pub values_on : Database → List Reference → List Reply
 values_on m keys = map (λ key. Answered (Value (value_at key m))) keys
 
--- the commands are $GETs, which lie there as units of the job, and so do their replies, as they were when there were just so
--- many units, these
-pub record IsAhead (job number : ℕ) (units : List JournalUnit) (commands : List DataCommand) (gets : Gathered) (served : List Reply) : Type 0 where
-  pub keys : List Reference
-  pub some : 1 ≤ length keys
-  pub asked : commands ≡ map get_of keys
+-- $GETs of these keys lie there as units of the job, and so do their replies, as they were when there were just so many
+-- units, these
+pub record AreGathered (job number : ℕ) (units : List JournalUnit) (keys : List Reference) (gets : Gathered) (served : List Reply) : Type 0 where
   pub counted : number ≡ length units
   pub owner : gets.job ≡ job
   pub gathered : gets.units ≡ gets_on job (after units initial).map keys
   pub told : served ≡ values_on (after units initial).map keys
+
+-- the commands are $GETs, some, and are gathered so
+pub record IsAhead (job number : ℕ) (units : List JournalUnit) (commands : List DataCommand) (gets : Gathered) (served : List Reply) : Type 0 where
+  pub keys : List Reference
+  pub some : 1 ≤ length keys
+  pub asked : commands ≡ map get_of keys
+  pub are : AreGathered job number units keys gets served
 
 -- data commands as a session's commands
 abbrev pub accesses : List DataCommand → List Command

@@ -17,6 +17,9 @@ const TRIES: u32 = 1_000;
 
 const LOOKS: u32 = 256;
 
+// The same for who would share it: who has it alone, has it for a few microseconds.
+const READ_LOOKS: u32 = 64;
+
 // After how many tries it lets others run before the next one: a few microseconds, longer than most have the lock.
 const EARLY_TRIES: u32 = 16;
 
@@ -27,11 +30,14 @@ const PATIENT_LOOKS: u32 = 96;
 
 const PATIENT_EARLY_TRIES: u32 = 28;
 
+// After a try at once in vain the lock is taken to be in use at so many of the next ones.
+const IN_USE: u64 = 64;
+
 /// How a thread waits for the lock alone.
 #[derive(Clone, Copy)]
 pub(crate) enum Patience {
-    /// It tries often, and from its first try in vain on those who would share the lock hold back. For a commit, say,
-    /// which takes less time than the next reads of the others.
+    /// It tries often, and from its first try in vain on those who would share the lock hold back. For a commit, say, or
+    /// for $GETs that were gathered before, which take less time than the next reads of the others.
     Short,
     /// For a while nobody holds back for it. For lone commands: whoever has the lock does many of them one after the
     /// other, and who would share it gathers others meanwhile.
@@ -43,8 +49,10 @@ pub(crate) enum Patience {
 pub(crate) struct AdaptiveLock<T> {
     // How many threads want the lock alone.
     wanted: AtomicU64,
-    // Keeps that word out of the cache lines of the lock, which change with each try.
-    _apart: [u64; 15],
+    // At how many of the next tries at once it is taken to be in use.
+    in_use: AtomicU64,
+    // Keeps these words out of the cache lines of the lock, which change with each try.
+    _apart: [u64; 14],
     lock: RwLock<T>,
 }
 
@@ -53,7 +61,8 @@ impl<T> AdaptiveLock<T> {
     pub(crate) fn new(value: T) -> AdaptiveLock<T> {
         AdaptiveLock {
             wanted: AtomicU64::new(0),
-            _apart: [0; 15],
+            in_use: AtomicU64::new(0),
+            _apart: [0; 14],
             lock: RwLock::new(value),
         }
     }
@@ -62,6 +71,7 @@ impl<T> AdaptiveLock<T> {
     pub(crate) fn into_inner(self) -> T {
         let AdaptiveLock {
             wanted: _,
+            in_use: _,
             _apart: _,
             lock,
         } = self;
@@ -101,14 +111,24 @@ impl<T> AdaptiveLock<T> {
                     return guard;
                 }
             }
-            self.rest(tries < EARLY_TRIES, LOOKS);
+            self.rest(tries < EARLY_TRIES, READ_LOOKS);
         }
         self.lock.read(rt)
     }
 
-    /// The lock alone, where nobody has it now.
+    /// The lock alone, where nobody has it now, and none of the last tries at once was in vain. Else others are about, whom
+    /// much that is done under it alone would keep waiting. Threads that try together may miscount their tries.
     pub(crate) fn write_at_once(&self) -> Option<RwLockWriteGuard<'_, T>> {
-        self.lock.try_write()
+        let in_use = self.in_use.load(Ordering::Relaxed);
+        if in_use > 0 {
+            self.in_use.store(in_use - 1, Ordering::Relaxed);
+            return None;
+        }
+        let guard = self.lock.try_write();
+        if guard.is_none() {
+            self.in_use.store(IN_USE, Ordering::Relaxed);
+        }
+        guard
     }
 
     /// The lock alone.

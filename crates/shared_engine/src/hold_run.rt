@@ -545,7 +545,11 @@ impl<B: BoardName> Shared<B> {
             return;
         }
         let mut ahead = self.read_ahead(rt, &mut session.inner, hold);
-        let guard = self.lock.write(rt, Patience::Long);
+        let patience = match &ahead {
+            Some(_) => Patience::Short,
+            None => Patience::Long,
+        };
+        let guard = self.lock.write(rt, patience);
         self.hold_under(rt, guard, session, hold, &mut ahead, turn);
     }
 

@@ -1,4 +1,4 @@
-use Rattle.std.proofs.Common.{◌≡◌, ◌+◌, ◌++◌, ◌∷◌, ◌∙◌, [], List, ap, sym, length, length-append, take, arith}
+use Rattle.std.proofs.Common.{◌≡◌, ◌+◌, ◌++◌, ◌∷◌, ◌∙◌, [], List, ap, sym, length, length-append, append_assoc, take, arith}
 use Rattle.std.specs.Prelude.{map, Ok}
 use Rattle.std.proofs.lemmas.List.{map_more}
 use Rattle.collation.specs.Reference.{Reference}
@@ -30,9 +30,9 @@ loop-key-preserved c =
     record {
       in_range = omega (arith, within);
       job = ap (λ (g : Gathered). g.job) did.gathered ∙ before.job;
-      gathered = ap (λ (g : Gathered). g.units) did.gathered ∙ ((λ k. before.gathered k ++ got (before.job k) key value ∷ []) ∙ sym (map_more unit keys i key within ∙ ap (λ r. map unit (take i keys) ++ unit r ∷ []) (sym c.key-item.is)));
+      gathered = ap (λ (g : Gathered). g.units) did.gathered ∙ ((λ k. before.gathered k ++ got (before.job k) key value ∷ []) ∙ (append_assoc c.args.gets.now.units (map unit (take i keys)) (unit key ∷ []) ∙ ap (λ us. c.args.gets.now.units ++ us) (sym (map_more unit keys i key within ∙ ap (λ r. map unit (take i keys) ++ unit r ∷ []) (sym c.key-item.is)))));
       told = told.0;
-      served = told.1 ∙ (ap (λ (rs : List Reply). rs ++ Answered (Value value) ∷ []) before.served ∙ sym (map_more reply keys i key within ∙ ap (λ r. map reply (take i keys) ++ reply r ∷ []) (sym c.key-item.is)));
+      served = told.1 ∙ (ap (λ (rs : List Reply). rs ++ Answered (Value value) ∷ []) before.served ∙ (append_assoc c.args.told.now.served (map reply (take i keys)) (reply key ∷ []) ∙ ap (λ rs. c.args.told.now.served ++ rs) (sym (map_more reply keys i key within ∙ ap (λ r. map reply (take i keys) ++ reply r ∷ []) (sym c.key-item.is)))));
       count = omega (arith, ap length c.push_reserved.ensures.items, length-append t.tags.items (c.push_reserved.new.self.items), before.count);
       capacity = c.push_reserved.ensures.capacity ∙ before.capacity;
       answers = before.answers;
